@@ -1,55 +1,26 @@
 -- There is room for what a run writes: it makes fewer posts than there are tasks, and a reason has fewer atoms than twice their number.
-use mathlib.Core.Path.{_≡_, refl, sym, ap, subst, _∙_}
-use mathlib.Core.Bool.{Bool, true, false}
+use mathlib.Core.Path.{_≡_, sym, ap, subst, _∙_}
+use mathlib.Core.Bool.{Bool, false}
 use mathlib.Core.Logic.{inl, inr}
 use mathlib.Core.List.{List, [], _∷_}
-use Prim.Native.Nat.{ℕ, zero, suc, _+_, _-_, _*_, _≤_, _<_}
+use Prim.Native.Nat.{ℕ, zero, suc, _+_, _*_, _≤_, _<_}
 use native.Mathlib.Omega.{arith}
-use native.Mathlib.Decide.{decLe, ℕ-discrete}
+use native.Mathlib.Decide.{ℕ-discrete}
 use lib.ListN.{length, getD, length-append}
 use Rattle.integers.specs.Orders.{index}
-use Rattle.integers.proofs.Bools.{bool, clash}
-use Rattle.scheduling.specs.Scheduling.{natural, Tasks, Proper, TaskSet, _with_, In}
-use Rattle.scheduling.proofs.SetSizes.{card, card-with, card-none, card-most}
+use Rattle.integers.proofs.Bools.{bool}
+use Rattle.scheduling.specs.Scheduling.{natural, Tasks, Proper, TaskSet, In}
+use Rattle.scheduling.proofs.SetSizes.{card-less}
 use Rattle.scheduling.specs.Moments.{ByEarliest, ByCompletion}
-use Rattle.scheduling.proofs.Sets.{with-in}
 use Rattle.trees.specs.Leaves.{Leaf, whiteAt, taskAt, theta}
 use Rattle.trees.specs.Searches.{thetaOf}
 use Rattle.trees.proofs.RootAnswers as tree
 use Rattle.trees.proofs.WhiteTasks.{theta-none, theta-white, theta-skip, theta-is}
 use Rattle.runs.specs.Traces.{Post}
-use Rattle.runs.specs.Runs.{State}
+use Rattle.runs.specs.Runs.{State, run}
 use Rattle.runs.specs.Words.{reasons}
 use Rattle.runs.proofs.ReasonLengths.{conflict-length, propagation-length}
-use Rattle.runs.proofs.LevelSteps.{Measure, Inv, Found, Th, lam, taskOf, AllGood}
-
--- Numbers below t that are all different are at most t many.
-module _ (f : ℕ → ℕ) (t : ℕ) where
-  abbrev below : Tasks natural
-  below = record { count = t; earliest = λ _. 0; latest = λ _. 0; duration = λ _. 1 }
-
-  image : ℕ → TaskSet
-  image zero k = false
-  image (suc m) k = (image m with f m) k
-
-  image-in : (m k : ℕ) → image m k ≡ true → (j : ℕ) × (j < m) × (f j ≡ k)
-  unfolding image
-  image-in zero k h = clash h refl
-  image-in (suc m) k h = elim (with-in (image m) (f m) k h)
-      [ inl z ↦ (m, omega arith, sym z) | inr y ↦ (let (j, q, z) = image-in m k y in (j, omega arith, z)) ]
-
-  image-card : (m : ℕ) → ((j : ℕ) → j < m → f j < t) → ((i j : ℕ) → i < m → j < m → f i ≡ f j → i ≡ j) → card below (image m) ≡ m
-  unfolding image
-  image-card zero small once = card-none below
-  image-card (suc m) small once =
-      card-with below (image m) (f m) (record { small = small m (omega arith); mem = fresh }) ∙ ap suc (image-card m (λ j q. small j (omega arith)) (λ i j q r. once i j (omega arith) (omega arith)))
-    where
-      fresh : image m (f m) ≡ false
-      fresh = elim (bool (image m (f m)))
-          [ inl y ↦ (let (j, q, z) = image-in m (f m) y in absurd (omega (arith, once j m (omega arith) (omega arith) z))) | inr y ↦ y ]
-
-  pub at-most : (m : ℕ) → ((j : ℕ) → j < m → f j < t) → ((i j : ℕ) → i < m → j < m → f i ≡ f j → i ≡ j) → m ≤ t
-  at-most m small once = omega (arith, image-card m small once, card-most below (image m))
+use Rattle.runs.proofs.LevelSteps.{Measure, OutOk, run-ok, Inv, Found, Th, lam, AllGood}
 
 -- the white leaves among d leaves
 pub theta-few : (white : ℕ → Bool) (task : ℕ → ℕ) (a d : ℕ) → length (thetaOf white task a d) ≤ d
@@ -92,57 +63,28 @@ module _ (o : ℕ) (J : Tasks natural) (ok : Proper J) (estOrder lctOrder : List
 
   pub short : Measure o J ok estOrder lctOrder rk ord Short ShortEnd
   short = record {
-    of-post = λ t ls Λ s x b small f late over is up.
+    of-post = λ t ls Λ s x b small f late over is up edge.
         omega (
           arith,
           propagation-length o J (getD estOrder x 0) b (Rattle.scheduling.specs.Scheduling.completion J (getD lctOrder t 0)) (Rattle.trees.specs.Leaves.sum J estOrder ls) (theta J estOrder ls),
           theta-less ls x (f .small) (found-not-white t ls Λ s x f),
         );
-    of-end = λ t ls Λ s small over.
+    of-end = λ t ls Λ s small over wrong.
         omega (arith, conflict-length o J (Rattle.scheduling.specs.Scheduling.completion J (getD lctOrder t 0)) (Rattle.trees.specs.Leaves.sum J estOrder ls) (theta J estOrder ls), theta-most ls);
   }
+
+  pub short-run : 1 ≤ n → OutOk o J ok estOrder lctOrder rk ord Short ShortEnd short (run o J estOrder lctOrder)
+  short-run = run-ok o J ok estOrder lctOrder rk ord Short ShortEnd short
 
   pub reasons-short : (ps : List Post) → AllGood o J ok estOrder lctOrder rk ord Short ShortEnd short ps → length (reasons ps) + length ps ≤ length ps * (2 * n)
   unfolding reasons
   reasons-short [] g = omega arith
   reasons-short (p ∷ ps) g = omega (arith, length-append (p .reason) (reasons ps), g 0 (omega arith), reasons-short ps (λ j q. g (suc j) (omega arith)))
 
-  -- the posted tasks come before place t
   module _ (t : ℕ) (st : State) (v : Inv o J ok estOrder lctOrder rk ord Short ShortEnd short t st) where
-    abbrev place : ℕ → ℕ
-    place k = index lctOrder k
-
-    abbrev tk : ℕ → ℕ
-    tk = taskOf o J ok estOrder lctOrder rk ord Short ShortEnd short (st .posts)
-
-    posted-early : (j : ℕ) → j < length (st .posts) → place (tk j) < t
-    posted-early j q = elim (decLe t (place (tk j)))
-        [ yes h ↦ absurd (omega (arith, v .posted .raises j q, v .posted .agrees j q, v .facts .same-on (tk j) (v .posted .small j q) h)) | no h ↦ omega arith ]
-
-    same-task : (i j : ℕ) → i < n → j < n → place i ≡ place j → i ≡ j
-    same-task i j q r z = sym (ord .there i q) ∙ ap (λ (u : ℕ). getD lctOrder u 0) z ∙ ord .there j r
-
     pub posts-few : length (st .posts) ≤ t
-    posts-few = at-most (λ j. place (tk j)) t (length (st .posts)) posted-early
-        (λ i j q r z. v .posted .once i j q r (same-task (tk i) (tk j) (v .posted .small i q) (v .posted .small j r) z))
+    posts-few = omega (arith, v .few)
 
     -- with one more, which was not posted yet
     pub posts-fewer : (k : ℕ) → In J (lam o J ok estOrder lctOrder rk ord Short ShortEnd short st) k → suc (length (st .posts)) ≤ t
-    posts-fewer k h = at-most more t (suc (length (st .posts))) small once
-      where
-        more : ℕ → ℕ
-        more zero = place k
-        more (suc j) = place (tk j)
-
-        small : (j : ℕ) → j < suc (length (st .posts)) → more j < t
-        small zero q = v .facts .gray k h
-        small (suc j) q = posted-early j (omega arith)
-
-        fresh : (j : ℕ) → j < length (st .posts) → k ≡ tk j → ⊥
-        fresh j q z = omega (arith, v .posted .raises j q, v .posted .agrees j q, subst (λ (i : ℕ). getD (st .starts) i 0 ≡ J .earliest i) z (v .facts .same-in k h))
-
-        once : (i j : ℕ) → i < suc (length (st .posts)) → j < suc (length (st .posts)) → more i ≡ more j → i ≡ j
-        once zero zero q r z = refl
-        once zero (suc j) q r z = absurd (fresh j (omega arith) (same-task k (tk j) (h .small) (v .posted .small j (omega arith)) z))
-        once (suc i) zero q r z = absurd (fresh i (omega arith) (same-task k (tk i) (h .small) (v .posted .small i (omega arith)) (sym z)))
-        once (suc i) (suc j) q r z = ap suc (v .posted .once i j (omega arith) (omega arith) (same-task (tk i) (tk j) (v .posted .small i (omega arith)) (v .posted .small j (omega arith)) z))
+    posts-fewer k h = omega (arith, v .few, card-less J (lam o J ok estOrder lctOrder rk ord Short ShortEnd short st) k h)

@@ -16,12 +16,11 @@ use Rattle.integers.specs.Moments.{moment, Above, instant, zeroAt}
 use Rattle.integers.specs.Orders.{index, has}
 use Rattle.integers.proofs.Bools.{bool}
 use Rattle.integers.proofs.Ints.{up, dn, ints, sumℤ}
-use Rattle.integers.proofs.MomentSums.{mono, more-above, at-moment}
+use Rattle.integers.proofs.MomentSums.{mono, at-moment}
 use Rattle.integers.proofs.Permutations.{has-here, has-later}
 use Rattle.scheduling.specs.Scheduling.{natural, Tasks, tasksOf, Proper, TaskSet, _with_, completion, processing, Atom, Every}
 use Rattle.scheduling.proofs.Every.{every-append}
 use Rattle.scheduling.proofs.Processing.{processing-all, processing-mono, processing-less, processing-with}
-use Rattle.scheduling.proofs.Clocks.{sound}
 use Rattle.scheduling.specs.Moments.{moments, ByEarliest, ByCompletion}
 use Rattle.trees.specs.Leaves.{Leaf, theta}
 use Rattle.trees.specs.Leaves as leaves
@@ -29,7 +28,7 @@ use Rattle.trees.proofs.RootAnswers as tree
 use Rattle.runs.specs.Traces.{Post, Trace, overload}
 use Rattle.runs.specs.Demand.{consequentOf, post}
 use Rattle.runs.specs.Runs.{atLeast, atMost, within, conflict, conflict-of, bounds, propagation, propagation-of, propagate, earliestOrder, completionOrder}
-use Rattle.runs.proofs.Demand.{AcceptedTasks, by-earliest, by-completion}
+use Rattle.runs.proofs.Demand.{AcceptedTasks, accepted-above, accepted-proper, by-earliest, by-completion}
 use Rattle.runs.proofs.AtomRoom as room
 use Rattle.runs.proofs.LevelSteps.{Measure, OutOk, run-ok}
 use Rattle.runs.proofs.WalkStops as stops
@@ -180,19 +179,19 @@ module _ (o : ℕ) (J : Tasks natural) (ok : Proper J) (low high d : ℕ) (early
 
     pub shaped : Measure o J ok estOrder lctOrder rk ord (ShapedPost o J low high d) (ShapedEnd o J low high d)
     shaped = record {
-      of-post = λ t ls Λ s x b small f late over is up.
+      of-post = λ t ls Λ s x b small f late over is up edge.
           let i = task (getD estOrder x 0) (f .gray .small) in
           let m : leaves.sum J estOrder ls + J .duration (getD estOrder x 0) ≤ d = sum-with t ls Λ s small (getD estOrder x 0) (f .gray .small) (f .out) in
           record {
             says = record { task = i .small; kind = omega arith; at = b; value = refl; from = omega (arith, i .starts, i .short, up); to = omega (arith, m, ect-most t ls Λ s small b is) };
             because = propagation-fits (getD estOrder x 0) b (completion J (getD lctOrder t 0)) (leaves.sum J estOrder ls) i (last t ls Λ s small .ends) m (theta J estOrder ls)
                 (listed t ls Λ s small);
-            few = omega (arith, room.short o J ok estOrder lctOrder rk ord .of-post t ls Λ s x b small f late over is up);
+            few = omega (arith, room.short o J ok estOrder lctOrder rk ord .of-post t ls Λ s x b small f late over is up edge);
           };
-      of-end = λ t ls Λ s small over. record {
+      of-end = λ t ls Λ s small over wrong. record {
         because = conflict-fits (completion J (getD lctOrder t 0)) (leaves.sum J estOrder ls) (last t ls Λ s small .ends) (last t ls Λ s small .by) (sum-most t ls Λ s small) (theta J estOrder ls)
             (listed t ls Λ s small);
-        few = room.short o J ok estOrder lctOrder rk ord .of-end t ls Λ s small over;
+        few = room.short o J ok estOrder lctOrder rk ord .of-end t ls Λ s small over wrong;
       };
     }
 
@@ -211,15 +210,17 @@ module _ (limit near : ℕ) (fits : limit ≤ MIRRORED) (close : near ≤ MIRROR
   abbrev greatest : ℕ
   greatest = zeroAt + near
 
-  deep : (k : ℕ) → k < length ds → Above zeroAt (getD es k (pos 0))
-  deep k q = more-above limit zeroAt (omega arith) (getD es k (pos 0)) (a .from k q)
-
   proper : Proper J
-  proper = sound zeroAt (tasksOf ds es ls) (record { ranges = a .ranges; lasts = a .lasts }) deep
+  proper = accepted-proper limit fits ds es ls a
 
   from : (k : ℕ) → k < length ds → least ≤ moment zeroAt (getD es k (pos 0)) + getD ds k 0
   unfolding up dn
-  from k q = omega (ints, at-moment near (getD es k (pos 0) +ℤ pos (getD ds k 0)) (ends k q), sumℤ (getD es k (pos 0)) (pos (getD ds k 0)), at-moment zeroAt (getD es k (pos 0)) (deep k q))
+  from k q = omega (
+    ints,
+    at-moment near (getD es k (pos 0) +ℤ pos (getD ds k 0)) (ends k q),
+    sumℤ (getD es k (pos 0)) (pos (getD ds k 0)),
+    at-moment zeroAt (getD es k (pos 0)) (accepted-above limit fits ds es ls a k q),
+  )
 
   to : (k : ℕ) → k < length ds → moment zeroAt (getD ls k (pos 0)) ≤ greatest
   to k q = mono zeroAt (getD ls k (pos 0)) (pos near) (starts k q)

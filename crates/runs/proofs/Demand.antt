@@ -19,11 +19,12 @@ use Rattle.integers.proofs.Permutations.{numbers-permute}
 use Rattle.integers.proofs.StableSort.{sort-ordered, key-whole, key-chain}
 use Rattle.scheduling.specs.Scheduling.{whole, natural, Tasks, tasksOf, Proper, total, processing, completion, Done, Conflict}
 use Rattle.scheduling.proofs.Processing.{processing-all}
+use Rattle.scheduling.proofs.Ects as ects
 use Rattle.scheduling.proofs.Clocks.{sound, done←, conflict←}
 use Rattle.scheduling.specs.Moments.{moments, ByEarliest, ByCompletion}
 use Rattle.scheduling.proofs.Schedules.{conflict-sound}
 use Rattle.runs.specs.Traces.{End, done, overload, emptied, Trace}
-use Rattle.runs.specs.Runs.{run, propagate, byEarliest, byCompletion, earliestOrder, completionOrder}
+use Rattle.runs.specs.Runs.{run, propagate, byCompletion, earliestOrder, completionOrder}
 use Rattle.runs.specs.Demand.{Right, PostRight, OverloadRight, post}
 use Rattle.runs.proofs.LevelSteps.{OutOk, run-ok}
 use Rattle.runs.proofs.RightReasons.{all-right}
@@ -42,7 +43,7 @@ pub record AcceptedTasks (limit : ℕ) (ds : List ℕ) (es ls : List ℤ) : Type
 weaker : (a b : ℤ) → a <ℤ b → a ≤ℤ b
 weaker a b h = omega ints
 
-is-done : (e : End) → (e ≡ done) ⊎ (e ≡ done → ⊥)
+pub is-done : (e : End) → (e ≡ done) ⊎ (e ≡ done → ⊥)
 is-done done = inl refl
 is-done (overload r) = inr (λ z. let y : _≡_ {A = ℕ} 0 1 = cc in omega arith)
 is-done emptied = inr (λ z. let y : _≡_ {A = ℕ} 0 1 = cc in omega arith)
@@ -131,10 +132,7 @@ module _ (o : ℕ) (Z : Tasks whole) (okz : Proper Z) (deepz : (k : ℕ) → k <
 
 -- the two orders of a run
 pub by-earliest : (J : Tasks natural) → ByEarliest J (λ j. getD (earliestOrder J) j 0) (λ k. index (earliestOrder J) k)
-by-earliest J =
-    let r : Ordered (J .count) (λ j. getD (earliestOrder J) j 0) (λ k. index (earliestOrder J) k) (λ j k. byEarliest J j k ≡ true)
-    = sort-ordered (byEarliest J) (key-whole (J .earliest)) (key-chain (J .earliest)) (J .count) (numbers 0 (J .count)) (numbers-permute (J .count)) in
-    record { task = r .task; placed = r .placed; there = r .there; back = r .back; sorted = λ s t q h. leb-true _ _ (r .sorted s t q h) }
+by-earliest J = ects.by-earliest J
 
 pub by-completion : (J : Tasks natural) → ByCompletion J (λ j. getD (completionOrder J) j 0) (λ k. index (completionOrder J) k)
 by-completion J =
@@ -142,20 +140,23 @@ by-completion J =
     = sort-ordered (byCompletion J) (λ a b. key-whole (completion J) b a) (λ a b c h k. key-chain (completion J) c b a k h) (J .count) (numbers 0 (J .count)) (numbers-permute (J .count)) in
     record { task = r .task; placed = r .placed; there = r .there; back = r .back; sorted = λ s t q h. leb-true _ _ (r .sorted s t q h) }
 
+-- accepted tasks are proper, and start after the least moment
+module _ (limit : ℕ) (near : limit ≤ MIRRORED) (ds : List ℕ) (es ls : List ℤ) (a : AcceptedTasks limit ds es ls) where
+  pub accepted-above : (k : ℕ) → k < length ds → Above zeroAt (getD es k (pos 0))
+  accepted-above k q = more-above limit zeroAt (omega arith) (getD es k (pos 0)) (a .from k q)
+
+  okz : Proper (tasksOf ds es ls)
+  okz = record { ranges = a .ranges; lasts = a .lasts }
+
+  pub accepted-proper : Proper (moments zeroAt (tasksOf ds es ls))
+  accepted-proper = sound zeroAt (tasksOf ds es ls) okz accepted-above
+
 -- within a limit that leaves room before the least moment for all durations
 pub demand-3 : (limit : ℕ) → limit ≤ MIRRORED → (ds : List ℕ) (es ls : List ℤ) → AcceptedTasks limit ds es ls → Right (tasksOf ds es ls) (propagate ds es ls)
 unfolding propagate
 demand-3 limit near ds es ls a =
-    run-right zeroAt (tasksOf ds es ls) okz deepz (a .some) room (earliestOrder J) (completionOrder J) (by-earliest J) (by-completion J)
-  where
-    J : Tasks natural
-    J = moments zeroAt (tasksOf ds es ls)
-
-    okz : Proper (tasksOf ds es ls)
-    okz = record { ranges = a .ranges; lasts = a .lasts }
-
-    deepz : (k : ℕ) → k < length ds → Above zeroAt (getD es k (pos 0))
-    deepz k q = more-above limit zeroAt (omega arith) (getD es k (pos 0)) (a .from k q)
-
-    room : (k : ℕ) → k < length ds → processing (moments zeroAt (tasksOf ds es ls)) (λ _. true) ≤ moment zeroAt (getD es k (pos 0))
-    room k q = omega (arith, processing-all (moments zeroAt (tasksOf ds es ls)), a .sum, at-moment limit (getD es k (pos 0)) (a .from k q), at-moment zeroAt (getD es k (pos 0)) (deepz k q))
+    let J : Tasks natural = moments zeroAt (tasksOf ds es ls) in
+    let deep = accepted-above limit near ds es ls a in
+    run-right zeroAt (tasksOf ds es ls) (okz limit near ds es ls a) deep (a .some)
+    (λ k q. omega (arith, processing-all J, a .sum, at-moment limit (getD es k (pos 0)) (a .from k q), at-moment zeroAt (getD es k (pos 0)) (deep k q)))
+    (earliestOrder J) (completionOrder J) (by-earliest J) (by-completion J)

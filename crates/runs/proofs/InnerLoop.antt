@@ -1,30 +1,24 @@
--- The clauses of the two loops and their cases, and that the inner one needs no more turns than there are gray leaves.
+-- The clauses of the two loops and their cases.
 use mathlib.Core.Path.{_≡_, refl, sym, ap, subst, _∙_}
 use mathlib.Core.Bool.{Bool, true, false}
 use mathlib.Core.Logic.{_⊎_, inl, inr}
 use mathlib.Core.List.{List, []}
 use mathlib.Core.Option.{Option, some, none}
-use Prim.Native.Nat.{ℕ, zero, suc, _-_, _≤_, _<_}
-use native.Mathlib.Omega.{arith}
-use native.Mathlib.Decide.{ℕ-discrete}
+use Prim.Native.Nat.{ℕ, suc, _-_, _≤_, _<_}
 use lib.Dec.{ltb}
 use lib.IntN.{ℤ}
-use lib.ListN.{length, getD, set, length-set, replicate}
-use lib.Seq.{getD-set-same, getD-set-other}
-use borrow.Author.Tests.{ne-eqb, eq-eqb, ltb-true, ltb-false, lt-ltb, le-ltb}
-use Rattle.scheduling.specs.Scheduling.{natural, Tasks, tasksOf, Proper, TaskSet}
+use lib.ListN.{getD, replicate}
+use borrow.Author.Tests.{ltb-true, ltb-false}
+use Rattle.scheduling.specs.Scheduling.{natural, Tasks, tasksOf}
 use Rattle.integers.proofs.Bools.{bool}
-use Rattle.scheduling.proofs.Sets.{_less_}
-use Rattle.scheduling.proofs.SetSizes.{card, card-less, card-same}
-use Rattle.scheduling.specs.Moments.{moments, ByEarliest}
+use Rattle.scheduling.specs.Moments.{moments}
 use Rattle.integers.specs.Moments.{zeroAt}
 use Rattle.integers.specs.Orders.{index}
 use Rattle.trees.specs.Ects.{exceeds}
 use Rattle.trees.proofs.Ects.{past-or-not}
-use Rattle.trees.specs.Leaves.{Leaf, empty, white, sum, theta, inLambda, whiteAt, grayAt, responsible, ect, ect-bar}
+use Rattle.trees.specs.Leaves.{white, sum, theta, responsible, ect, ect-bar}
 use Rattle.runs.specs.Traces.{Trace, done, overload, emptied}
 use Rattle.runs.specs.Runs.{State, Turn, on, stop, inner, outer, run, ended, grayed, tabulate, conflict, posted, raised, dropped, lct, earliestOrder, completionOrder, propagate}
-use Rattle.trees.proofs.RootAnswers as tree
 
 -- a leaf is found or not, and the inner loop goes on or stops
 pub opt : (u : Option ℕ) → (u ≡ none) ⊎ ((x : ℕ) × (u ≡ some x))
@@ -99,56 +93,6 @@ module _ (o : ℕ) (J : Tasks natural) (estOrder lctOrder : List ℕ) (f t : ℕ
       ]
     ]
   ]
-
-module _ (o : ℕ) (J : Tasks natural) (ok : Proper J) (estOrder lctOrder : List ℕ) (rk : ByEarliest J (λ j. getD estOrder j 0) (λ k. index estOrder k)) where
-  -- the gray tasks of the leaves
-  abbrev pub lam : List Leaf → TaskSet
-  lam ls k = grayAt ls (index estOrder k)
-
-  shape : (ls : List Leaf) → length ls ≡ J .count → tree.Represents J ok estOrder rk ls (λ k. whiteAt ls (index estOrder k)) (lam ls)
-  shape ls q = record { size = q; whites = λ k h. refl; grays = λ k h. refl }
-
-  -- a found task leaves Λ
-  pub fewer : (ls : List Leaf) (q : length ls ≡ J .count) (x : ℕ) → responsible J estOrder ls ≡ some x → card J (lam ls) ≡ suc (card J (lam (set ls x empty)))
-  fewer ls q x w = omega (arith, card-less J (lam ls) i (g .gray), card-same J (lam ls less i) (lam (set ls x empty)) same)
-    where
-      g : tree.Found J ok estOrder rk ls (λ k. whiteAt ls (index estOrder k)) (lam ls) (shape ls q) x
-      g = tree.one-found J ok estOrder rk ls (λ k. whiteAt ls (index estOrder k)) (lam ls) (shape ls q) x w
-
-      i : ℕ
-      i = getD estOrder x 0
-
-      at-x : index estOrder (getD estOrder x 0) ≡ x
-      at-x = rk .back x (g .small)
-
-      same : (k : ℕ) → k < J .count → (lam ls less getD estOrder x 0) k ≡ lam (set ls x empty) k
-      same k r = elim (ℕ-discrete k (getD estOrder x 0)) [
-        | yes z ↦ subst (λ (k : ℕ). (lam ls less getD estOrder x 0) k ≡ lam (set ls x empty) k) (sym z)
-            (rw (eq-eqb (getD estOrder x 0) (getD estOrder x 0) refl)
-            (sym (ap (λ (j : ℕ). grayAt (set ls x empty) j) at-x ∙ ap inLambda (getD-set-same ls x empty empty (omega (arith, q, g .small))))))
-        | no z ↦ rw (ne-eqb k (getD estOrder x 0) z) (sym (ap inLambda (getD-set-other ls x (index estOrder k) empty empty (λ y. z (sym (rk .there k r) ∙ ap (λ (j : ℕ). getD estOrder j 0) y)))))
-      ]
-
-  abbrev I : ℕ → ℕ → State → Turn
-  I f t st = inner o J estOrder lctOrder f t st
-
-  -- one turn more changes nothing
-  pub inner-more : (f t : ℕ) (st : State) → length (st .leaves) ≡ J .count → card J (lam (st .leaves)) ≤ f → I (suc f) t st ≡ I f t st
-  inner-more zero t st q few = inner-by o J estOrder lctOrder 0 t st (λ u. u ≡ I 0 t st) (record {
-    off = λ z. sym (inner-end o J estOrder lctOrder 0 t st);
-    absent = λ z w. sym (inner-end o J estOrder lctOrder 0 t st);
-    passes = λ x z w y. absurd (omega (arith, fewer (st .leaves) q x w, few));
-    empties = λ x b z w is up high. absurd (omega (arith, fewer (st .leaves) q x w, few));
-    raises = λ x b z w is up fits. absurd (omega (arith, fewer (st .leaves) q x w, few));
-  })
-  inner-more (suc f) t st q few = inner-by o J estOrder lctOrder (suc f) t st (λ u. u ≡ I (suc f) t st) (record {
-    off = λ z. sym (inner-off o J estOrder lctOrder f t st z);
-    absent = λ z w. sym (inner-none o J estOrder lctOrder f t st z w);
-    passes = λ x z w y. inner-more f t _ (length-set (st .leaves) x empty ∙ q) (omega (arith, fewer (st .leaves) q x w, few)) ∙ sym (inner-pass o J estOrder lctOrder f t st x z w y);
-    empties = λ x b z w is up high. sym (inner-stop o J estOrder lctOrder f t st x z w b is (lt-ltb _ _ up) (lt-ltb _ _ high));
-    raises = λ x b z w is up fits. inner-more f t _ (length-set (st .leaves) x empty ∙ q) (omega (arith, fewer (st .leaves) q x w, few))
-        ∙ sym (inner-raise o J estOrder lctOrder f t st x z w b is (lt-ltb _ _ up) (le-ltb _ _ fits));
-  })
 
 -- the whole run's definition, and the outer loop's clauses
 pub propagate-is : (ds : List ℕ) (es ls : List ℤ) → let J = moments zeroAt (tasksOf ds es ls) in propagate ds es ls ≡ run zeroAt J (earliestOrder J) (completionOrder J)

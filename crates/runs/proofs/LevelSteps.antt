@@ -1,24 +1,24 @@
 -- What holds at each level of a run, and how each step keeps it, for any property of posts and reasons that holds where the run makes them.
 use mathlib.Core.Path.{_≡_, refl, sym, ap, subst, _∙_}
-use mathlib.Core.Bool.{Bool, true, false}
+use mathlib.Core.Bool.{true, false}
 use mathlib.Core.Logic.{inl, inr}
 use mathlib.Core.List.{List, [], _∷_, _++_, map}
 use mathlib.Core.Option.{Option, some}
-use Prim.Native.Nat.{ℕ, zero, suc, _+_, _-_, _≤_, _<_}
+use Prim.Native.Nat.{ℕ, zero, suc, _+_, _-_, _*_, _≤_, _<_}
 use native.Mathlib.Omega.{arith}
 use native.Mathlib.Decide.{decLt, ℕ-discrete}
 use lib.Dec.{leb}
 use lib.IntN.{pos, subℕ}
 use lib.ListN.{length, getD, set, replicate, length-set, length-replicate, getD-replicate, List·getD-append}
 use lib.Seq.{getD-set-same, getD-set-other, getD-append-seam}
-use borrow.Author.Tests.{ne-eqb, eq-eqb, le-leb, lt-leb}
-use Rattle.scheduling.specs.Scheduling.{natural, Tasks, Proper, TaskSet, _with_, In, NonEmpty, completion, Ect, Done, Conflict, Atom}
+use borrow.Author.Tests.{ne-eqb, le-leb, lt-leb}
+use Rattle.scheduling.specs.Scheduling.{natural, Tasks, Proper, TaskSet, _with_, In, NonEmpty, completion, Ect, Overloads, EdgeFindingBound, Done, Conflict, Atom}
 use Rattle.integers.proofs.Bools.{leb-step, bool, clash, below-suc}
 use Rattle.integers.proofs.Lists.{getD-map-in, length-snoc}
-use Rattle.scheduling.proofs.Sets.{_less_, with-new}
+use Rattle.scheduling.proofs.Sets.{_less_, less-self, with-new}
 use Rattle.scheduling.proofs.Scan.{scan, scan-is}
-use Rattle.scheduling.proofs.Levels.{Posts, Facts, next, leave, facts-same, last-fits, edge, finish, overloaded, more}
-use Rattle.scheduling.proofs.SetSizes.{card, card-zero, card-most}
+use Rattle.scheduling.proofs.Levels.{Posts, Facts, next, leave, last-fits, edge, finish, overloaded, more}
+use Rattle.scheduling.proofs.SetSizes.{card, card-zero, card-less, card-same, card-most, card-none, card-with}
 use Rattle.integers.specs.Moments.{moment, Above, instant}
 use Rattle.integers.proofs.MomentSums.{moment-instant, instant-above, zero-above}
 use Rattle.scheduling.specs.Moments.{ByEarliest, ByCompletion}
@@ -32,7 +32,7 @@ use Rattle.trees.specs.Ects.{exceeds}
 use Rattle.trees.proofs.Ects.{one-moment, some-past, some-within}
 use Rattle.trees.proofs.RootAnswers as tree
 use Rattle.runs.specs.Demand.{no-post}
-use Rattle.runs.proofs.InnerLoop.{fewer, inner-end, inner-by, outer-end, outer-by}
+use Rattle.runs.proofs.InnerLoop.{inner-end, inner-by, outer-end, outer-by}
 use Rattle.runs.proofs.TaskLists.{tab-length, tab-at}
 
 pub map-above : (o : ℕ) (l : List ℕ) (k : ℕ) → Above o (getD (map (λ (m : ℕ). subℕ m o) l) k (pos 0))
@@ -122,9 +122,9 @@ module _ (o : ℕ) (J : Tasks natural) (ok : Proper J) (estOrder lctOrder : List
   -- what a post and an overload's reason are to be
   pub record Measure (Good : Post → Type 0) (GoodEnd : List Atom → Type 0) : Type 0 where
     pub of-post : (t : ℕ) (ls : List Leaf) (Λ : TaskSet) (s : Shape ls (Th t) Λ) (x b : ℕ) → t < n → Found ls (Th t) Λ s x → place (T x) < t → exceeds (barOf ls) (En t) ≡ true → ectOf ls ≡ some b
-        → J .earliest (T x) < b
+        → J .earliest (T x) < b → EdgeFindingBound J (T x) b
         → Good (record { task = T x; bound = subℕ b o; reason = propagation o J (T x) b (En t) (leaves.sum J estOrder ls) (theta J estOrder ls) })
-    pub of-end : (t : ℕ) (ls : List Leaf) (Λ : TaskSet) (s : Shape ls (Th t) Λ) → t < n → exceeds (ectOf ls) (En t) ≡ true
+    pub of-end : (t : ℕ) (ls : List Leaf) (Λ : TaskSet) (s : Shape ls (Th t) Λ) → t < n → exceeds (ectOf ls) (En t) ≡ true → (Ω : TaskSet) × Overloads J Ω
         → GoodEnd (conflict o J (En t) (leaves.sum J estOrder ls) (theta J estOrder ls))
 
   module _ (Good : Post → Type 0) (GoodEnd : List Atom → Type 0) (meas : Measure Good GoodEnd) where
@@ -151,6 +151,10 @@ module _ (o : ℕ) (J : Tasks natural) (ok : Proper J) (estOrder lctOrder : List
       pub facts : Fa t (lam st) (now st)
       pub posted : Posts J (now st) (length (st .posts)) (taskOf (st .posts)) (boundOf (st .posts))
       pub good : AllGood (st .posts)
+      -- each level brings one task into Λ, which leaves it by at most one post
+      pub few : length (st .posts) + card J (lam st) ≤ t
+      -- and by three leaf changes, of which the last is still to come for those in Λ
+      pub counted : st .changes + card J (lam st) ≡ n + 3 * t
 
     pub shape : (t : ℕ) (st : State) → Inv t st → Shape (st .leaves) (Th t) (lam st)
     shape t st v = record { size = v .size; whites = v .whites; grays = λ k q. refl }
@@ -176,32 +180,6 @@ module _ (o : ℕ) (J : Tasks natural) (ok : Proper J) (estOrder lctOrder : List
 
       all-good : AllGood ps → Good p → AllGood (ps ++ (p ∷ []))
       all-good g h j q = below-suc (λ j. Good (getD (ps ++ (p ∷ [])) j no-post)) (length ps) (λ j r. subst Good (sym (old j r)) (g j r)) (subst Good (sym new) h) j (omega (arith, length-snoc ps p))
-
-    -- the leaf of i is changed
-    module _ (ls : List Leaf) (i : ℕ) (c : Leaf) (size : length ls ≡ n) (small : i < n) where
-      -- what a leaf says is then Q, where it is Q at c and at the other leaves
-      changed : (f : Leaf → Bool) (Q : ℕ → Bool) → f c ≡ Q i → ((k : ℕ) → k < n → (k ≡ i → ⊥) → f (getD ls (rank k) empty) ≡ Q k) → (k : ℕ) → k < n → f (getD (set ls (rank i) c) (rank k) empty) ≡ Q k
-      changed f Q here others k q = elim (ℕ-discrete k i) [
-        | yes z ↦ rw z (ap f (getD-set-same ls (rank i) c empty (omega (arith, rk .placed i small))) ∙ here)
-        | no z ↦ ap f (getD-set-other ls (rank i) (rank k) c empty (λ y. z (sym (rk .there k q) ∙ ap T y ∙ rk .there i small))) ∙ others k q z
-      ]
-
-    -- i leaves Λ
-    module _ (t : ℕ) (ls : List Leaf) (i : ℕ) (size : length ls ≡ n) (small : i < n) (late : place i < t) where
-      drop-whites : ((k : ℕ) → k < n → whiteAt ls (rank k) ≡ Th t k) → (k : ℕ) → k < n → whiteAt (set ls (rank i) empty) (rank k) ≡ Th t k
-      drop-whites w = changed ls i empty size small inTheta (Th t) (sym (lt-leb t (place i) late)) (λ k q z. w k q)
-
-      drop-grays : (k : ℕ) → k < n → ((λ (k : ℕ). grayAt ls (rank k)) less i) k ≡ grayAt (set ls (rank i) empty) (rank k)
-      drop-grays k q = sym (changed ls i empty size small inLambda ((λ (k : ℕ). grayAt ls (rank k)) less i) (rw (eq-eqb i i refl)) (λ k q z. rw (ne-eqb k i z)) k q)
-
-    -- L t goes from Θ to Λ
-    module _ (t : ℕ) (ls : List Leaf) (size : length ls ≡ n) (small : t < n) where
-      gray-whites : ((k : ℕ) → k < n → whiteAt ls (rank k) ≡ Th t k) → (k : ℕ) → k < n → whiteAt (set ls (rank (L t)) gray) (rank k) ≡ Th (suc t) k
-      gray-whites w = changed ls (L t) gray size (ord .task t small) inTheta (Th (suc t)) (sym (lt-leb (suc t) (place (L t)) (omega (arith, ord .back t small))))
-          (λ k q z. w k q ∙ leb-step t (place k) (λ y. z (sym (ord .there k q) ∙ ap L y)))
-
-      gray-grays : (k : ℕ) → k < n → ((λ (k : ℕ). grayAt ls (rank k)) with L t) k ≡ grayAt (set ls (rank (L t)) gray) (rank k)
-      gray-grays k q = sym (changed ls (L t) gray size (ord .task t small) inLambda ((λ (k : ℕ). grayAt ls (rank k)) with L t) (rw (eq-eqb (L t) (L t) refl)) (λ k q z. rw (ne-eqb k (L t) z)) k q)
 
     -- no start is below the old one: a task's start is raised when it leaves Λ
     from-entry : (t : ℕ) (st : State) → Inv t st → (k : ℕ) → k < n → J .earliest k ≤ now st k
@@ -240,9 +218,22 @@ module _ (o : ℕ) (J : Tasks natural) (ok : Proper J) (estOrder lctOrder : List
       pub inv : Inv t st
       pub none-passes : E (Th t) ≤ En t → (k : ℕ) → In J (lam st) k → E (Th t with k) ≤ En t
 
-    abbrev pub TurnOk : ℕ → Turn → Type 0
-    TurnOk t (on st) = Closed t st
-    TurnOk t (stop st) = Conflict J × AllGood (st .posts) × StartsLeft (edges.ended o J estOrder lctOrder st emptied)
+    -- a run that a post ends at level t
+    pub record Emptied (t : ℕ) (st : State) : Type 0 where
+      pub wrong : Conflict J
+      pub goods : AllGood (st .posts)
+      pub left : StartsLeft (edges.ended o J estOrder lctOrder st emptied)
+      pub few : length (st .posts) ≤ t
+      pub counted : st .changes ≤ n + 3 * t
+
+    -- what the inner loop leaves: after enough turns no task of Λ passes any more
+    abbrev pub TurnOk : Type 0 → ℕ → Turn → Type 0
+    TurnOk enough t (on st) = Inv t st × (enough → Closed t st)
+    TurnOk enough t (stop st) = Emptied t st
+
+    sooner : {A B : Type 0} (t : ℕ) (u : Turn) → (A → B) → TurnOk B t u → TurnOk A t u
+    sooner t (on st) f w = (w .0, λ a. w .1 (f a))
+    sooner t (stop st) f w = w
 
     -- a task was found at leaf x
     module _ (t : ℕ) (st : State) (small : t < n) (v : Inv t st) (x : ℕ) (f : Found (st .leaves) (Th t) (lam st) (shape t st v) x) (over : exceeds (barOf (st .leaves)) (En t) ≡ true) where
@@ -265,16 +256,26 @@ module _ (o : ℕ) (J : Tasks natural) (ok : Proper J) (estOrder lctOrder : List
         E-is (Th t with i) (i, record { small = mem .small; mem = with-new (Th t) i }) .bounds (f .value) (f .attains),
       )
 
-      pub pass-ok : exceeds (ectOf (st .leaves)) (J .earliest i) ≡ false → Inv t (edges.dropped st x)
+      -- i leaves Λ
+      left : Shape (set (st .leaves) (rank i) empty) (Th t) (lam st less i)
+      left = tree.recoloured J ok estOrder rk (st .leaves) (Th t) (lam st) (Th t) (lam st less i) (shape t st v) i (mem .small) empty
+          (lt-leb t (place i) late) (less-self (lam st) i) (λ j ne. (refl, rw (ne-eqb j i ne)))
+
+      one-less : card J (lam st) ≡ suc (card J (λ k. grayAt (set (st .leaves) (rank i) empty) (rank k)))
+      one-less = omega (arith, card-less J (lam st) i mem, card-same J (λ k. grayAt (set (st .leaves) (rank i) empty) (rank k)) (lam st less i) (left .grays))
+
+      pass-ok : exceeds (ectOf (st .leaves)) (J .earliest i) ≡ false → Inv t (edges.dropped st x)
       pass-ok y = subst (λ (x : ℕ). Inv t (edges.dropped st x)) at-x (record {
-        size = length-set (st .leaves) (rank i) empty ∙ v .size;
-        whites = drop-whites t (st .leaves) i (v .size) (mem .small) late (v .whites);
+        size = left .size;
+        whites = left .whites;
         known = v .known;
         posted = v .posted;
         good = v .good;
-        facts = facts-same J ok E E-is L place ord t (lam st less i) (λ k. grayAt (set (st .leaves) (rank i) empty) (rank k)) (now st) (drop-grays t (st .leaves) i (v .size) (mem .small) late)
-            (leave J ok E E-is L place ord t (lam st) (now st) (now st) i (v .facts) mem hit
-            (omega (arith, some-within (ectOf (st .leaves)) (E (Th t)) (J .earliest i) (theta-ect t st small v) y, v .facts .same-in i mem)) (v .facts .inside i (mem .small)) (λ k ne. refl));
+        few = omega (arith, one-less, v .few);
+        counted = omega (arith, one-less, v .counted);
+        facts = leave J ok E E-is L place ord t (lam st) _ (now st) (now st) i (v .facts) mem hit
+            (omega (arith, some-within (ectOf (st .leaves)) (E (Th t)) (J .earliest i) (theta-ect t st small v) y, v .facts .same-in i mem)) (v .facts .inside i (mem .small))
+            (λ k ne. refl) (left .grays);
       })
 
       module _ (b : ℕ) (is : ectOf (st .leaves) ≡ some b) where
@@ -284,22 +285,26 @@ module _ (o : ℕ) (J : Tasks natural) (ok : Proper J) (estOrder lctOrder : List
         abbrev pub p : Post
         p = record { task = i; bound = subℕ b o; reason = propagation o J i b (En t) (leaves.sum J estOrder (st .leaves)) (theta J estOrder (st .leaves)) }
 
-        good-p : J .earliest i < b → Good p
-        good-p up = meas .of-post t (st .leaves) (lam st) (shape t st v) x b small f late over is up
+        bound : EdgeFindingBound J i b
+        bound = rw b-is (edge J ok E E-is L place ord t i (mem .small) late small hit)
 
-        pub raise-ok : J .earliest i < b → b ≤ J .latest i → Inv t (edges.dropped (edges.raised (edges.posted o J estOrder lctOrder st i b t) i b) x)
+        good-p : J .earliest i < b → Good p
+        good-p up = meas .of-post t (st .leaves) (lam st) (shape t st v) x b small f late over is up bound
+
+        raise-ok : J .earliest i < b → b ≤ J .latest i → Inv t (edges.dropped (edges.raised (edges.posted o J estOrder lctOrder st i b t) i b) x)
         raise-ok up fits = subst (λ (x : ℕ). Inv t (edges.dropped (edges.raised (edges.posted o J estOrder lctOrder st i b t) i b) x)) at-x (record {
-          size = length-set (st .leaves) (rank i) empty ∙ v .size;
-          whites = drop-whites t (st .leaves) i (v .size) (mem .small) late (v .whites);
+          size = left .size;
+          whites = left .whites;
           known = length-set (st .starts) i b ∙ v .known;
           good = all-good (st .posts) p (v .good) (good-p up);
+          few = omega (arith, one-less, v .few, length-snoc (st .posts) p);
+          counted = omega (arith, one-less, v .counted);
           posted = subst (λ (m : ℕ). Posts J now′ m (taskOf (st .posts ++ (p ∷ []))) (boundOf (st .posts ++ (p ∷ [])))) (sym (length-snoc (st .posts) p))
               (more J (now st) now′ (length (st .posts)) (taskOf (st .posts)) (boundOf (st .posts)) (taskOf (st .posts ++ (p ∷ []))) (boundOf (st .posts ++ (p ∷ []))) i b
               (mem .small) (v .posted) (v .facts .same-in i mem) up same other (ap (λ (q : Post). q .task) (new (st .posts) p))
               (ap (λ (q : Post). moment o (q .bound)) (new (st .posts) p) ∙ moment-instant o b)
               (λ j r. ap (λ (q : Post). q .task) (old (st .posts) p j r)) (λ j r. ap (λ (q : Post). moment o (q .bound)) (old (st .posts) p j r)));
-          facts = facts-same J ok E E-is L place ord t (lam st less i) (λ k. grayAt (set (st .leaves) (rank i) empty) (rank k)) now′ (drop-grays t (st .leaves) i (v .size) (mem .small) late)
-              (leave J ok E E-is L place ord t (lam st) (now st) now′ i (v .facts) mem hit (omega (arith, same, b-is)) (omega (arith, same)) other);
+          facts = leave J ok E E-is L place ord t (lam st) _ (now st) now′ i (v .facts) mem hit (omega (arith, same, b-is)) (omega (arith, same)) other (left .grays);
         })
           where
             now′ : ℕ → ℕ
@@ -311,41 +316,47 @@ module _ (o : ℕ) (J : Tasks natural) (ok : Proper J) (estOrder lctOrder : List
             other : (k : ℕ) → (k ≡ i → ⊥) → getD (set (st .starts) i b) k 0 ≡ getD (st .starts) k 0
             other k ne = getD-set-other (st .starts) i k b 0 ne
 
-        stop-ok : J .earliest i < b → J .latest i < b → TurnOk t (stop (edges.posted o J estOrder lctOrder st i b t))
-        stop-ok up high = (
-          inr (i, E (Th t), edge J ok E E-is L place ord t i (mem .small) late small hit, omega (arith, b-is)),
-          all-good (st .posts) p (v .good) (good-p up),
-          record {
+        stop-ok : J .earliest i < b → J .latest i < b → Emptied t (edges.posted o J estOrder lctOrder st i b t)
+        stop-ok up high = record {
+          wrong = inr (i, b, bound, high);
+          goods = all-good (st .posts) p (v .good) (good-p up);
+          left = record {
             many = length (st .posts);
             all = λ ne. absurd (ne refl);
             but-last = λ _. sym (length-snoc (st .posts) p);
             stand = standing t st (st .posts ++ (p ∷ [])) v (old (st .posts) p) (λ j q r. let z : j ≡ length (st .posts) = omega (arith, length-snoc (st .posts) p) in
                 subst (λ (j : ℕ). J .latest (taskOf (st .posts ++ (p ∷ [])) j) < boundOf (st .posts ++ (p ∷ [])) j) (sym z)
                 (subst (λ (q : Post). J .latest (q .task) < moment o (q .bound)) (sym (new (st .posts) p)) (omega (arith, moment-instant o b))));
-          },
-        )
+          };
+          few = omega (arith, one-less, v .few, length-snoc (st .posts) p);
+          counted = omega (arith, v .counted);
+        }
 
-    pub inner-ok : (f t : ℕ) (st : State) → t < n → Inv t st → card J (lam st) ≤ f → TurnOk t (inner o J estOrder lctOrder f t st)
-    inner-ok zero t st small v few = rw (inner-end o J estOrder lctOrder 0 t st) (record { inv = v; none-passes = λ q k h. absurd (card-zero J (lam st) few k h) })
-    inner-ok (suc f) t st small v few = inner-by o J estOrder lctOrder f t st (TurnOk t) (record {
-      off = λ z. record { inv = v; none-passes = λ q k h. tree.most J ok estOrder rk (st .leaves) (Th t) (lam st) (shape t st v) k h (En t) z };
-      absent = λ z w. record {
-        inv = v;
-        none-passes = λ q. absurd (omega (
-          arith,
-          theta-past t st small v (ap (λ (u : Option ℕ). exceeds u (En t)) (sym (tree.none-found J ok estOrder rk (st .leaves) (Th t) (lam st) (shape t st v) w)) ∙ z),
-        ));
-      };
-      passes = λ x z w y. inner-ok f t _ small (pass-ok t st small v x (found x w) z y) (down x w);
+    pub inner-ok : (f t : ℕ) (st : State) → t < n → Inv t st → TurnOk (card J (lam st) ≤ f) t (inner o J estOrder lctOrder f t st)
+    inner-ok zero t st small v = rw (inner-end o J estOrder lctOrder 0 t st) (v, λ few. record { inv = v; none-passes = λ q k h. absurd (card-zero J (lam st) few k h) })
+    inner-ok (suc f) t st small v = inner-by o J estOrder lctOrder f t st (TurnOk (card J (lam st) ≤ suc f) t) (record {
+      off = λ z. (v, λ _. record { inv = v; none-passes = λ q k h. tree.most J ok estOrder rk (st .leaves) (Th t) (lam st) (shape t st v) k h (En t) z });
+      absent = λ z w. (
+        v,
+        λ _. record {
+          inv = v;
+          none-passes = λ q. absurd (omega (
+            arith,
+            theta-past t st small v (ap (λ (u : Option ℕ). exceeds u (En t)) (sym (tree.none-found J ok estOrder rk (st .leaves) (Th t) (lam st) (shape t st v) w)) ∙ z),
+          ));
+        },
+      );
+      passes = λ x z w y. let i = pass-ok t st small v x (found x w) z y in on-from _ i refl (inner-ok f t _ small i);
       empties = λ x b z w is up high. stop-ok t st small v x (found x w) z b is up high;
-      raises = λ x b z w is up fits. inner-ok f t _ small (raise-ok t st small v x (found x w) z b is up fits) (down x w);
+      raises = λ x b z w is up fits. let i = raise-ok t st small v x (found x w) z b is up fits in on-from _ i refl (inner-ok f t _ small i);
     })
       where
         found : (x : ℕ) → leaves.responsible J estOrder (st .leaves) ≡ some x → Found (st .leaves) (Th t) (lam st) (shape t st v) x
         found = tree.one-found J ok estOrder rk (st .leaves) (Th t) (lam st) (shape t st v)
 
-        down : (x : ℕ) → leaves.responsible J estOrder (st .leaves) ≡ some x → card J (λ k. grayAt (set (st .leaves) x empty) (rank k)) ≤ f
-        down x w = omega (arith, few, fewer o J ok estOrder lctOrder rk (st .leaves) (v .size) x w)
+        on-from : (st′ : State) → Inv t st′ → st′ .changes ≡ st .changes + 1 → TurnOk (card J (lam st′) ≤ f) t (inner o J estOrder lctOrder f t st′)
+            → TurnOk (card J (lam st) ≤ suc f) t (inner o J estOrder lctOrder f t st′)
+        on-from st′ w e = sooner {A = card J (lam st) ≤ suc f} {B = card J (lam st′) ≤ f} t (inner o J estOrder lctOrder f t st′) (λ few. omega (arith, v .counted, w .counted))
 
     pub record OutOk (tr : Trace) : Type 0 where
       pub goods : AllGood (tr .posts)
@@ -354,18 +365,36 @@ module _ (o : ℕ) (J : Tasks natural) (ok : Proper J) (estOrder lctOrder : List
       pub otherwise : (tr .end ≡ done → ⊥) → Conflict J
       pub over : (r : List Atom) → tr .end ≡ overload r → GoodEnd r
       pub left : StartsLeft tr
+      pub few : suc (length (tr .posts)) ≤ n
+      pub counted : tr .changes ≤ n + 3 * (n - 1)
+      pub final : tr .end ≡ done → (st : State) × Closed (n - 1) st × (tr ≡ edges.ended o J estOrder lctOrder st done)
 
     -- L t goes
     pub gray-ok : (t : ℕ) (st : State) → t < n → Closed t st → E (Th t) ≤ En t → Inv (suc t) (edges.grayed st (rank (L t)))
-    gray-ok t st small c q = let v = c .inv in
+    gray-ok t st small c q =
+        let v = c .inv in
+        let out : lam st (L t) ≡ false = elim (bool (lam st (L t)))
+        [ inl y ↦ absurd (omega (arith, v .facts .gray (L t) (record { small = ord .task t small; mem = y }), ord .back t small)) | inr y ↦ y ] in
+        let gone : Shape (set (st .leaves) (rank (L t)) gray) (Th t less L t) (lam st with L t)
+        = tree.recoloured J ok estOrder rk (st .leaves) (Th t) (lam st) (Th t less L t) (lam st with L t) (shape t st v) (L t) (ord .task t small) gray
+        (less-self (Th t) (L t)) (with-new (lam st) (L t)) (λ j ne. (rw (ne-eqb j (L t) ne), rw (ne-eqb j (L t) ne))) in
+        let one-more : card J (λ k. grayAt (set (st .leaves) (rank (L t)) gray) (rank k)) ≡ suc (card J (lam st)) = omega (
+          arith,
+          card-with J (lam st) (L t) (record { small = ord .task t small; mem = out }),
+          card-same J (λ k. grayAt (set (st .leaves) (rank (L t)) gray) (rank k)) (lam st with L t) (gone .grays),
+        ) in
         record {
-          size = length-set (st .leaves) (rank (L t)) gray ∙ v .size;
-          whites = gray-whites t (st .leaves) (v .size) small (v .whites);
+          few = omega (arith, one-more, v .few);
+          counted = omega (arith, one-more, v .counted);
+          size = gone .size;
+          whites = λ k r. gone .whites k r ∙ elim (ℕ-discrete k (L t)) [
+            | yes z ↦ rw z (less-self (Th t) (L t) ∙ sym (lt-leb (suc t) (place (L t)) (omega (arith, ord .back t small))))
+            | no z ↦ rw (ne-eqb k (L t) z) (leb-step t (place k) (λ y. z (sym (ord .there k r) ∙ ap L y)))
+          ];
           known = v .known;
           posted = v .posted;
           good = v .good;
-          facts = facts-same J ok E E-is L place ord (suc t) (lam st with L t) (λ k. grayAt (set (st .leaves) (rank (L t)) gray) (rank k)) (now st) (gray-grays t (st .leaves) (v .size) small)
-              (next J ok E E-is L place ord t (lam st) (now st) small (v .facts) (c .none-passes q) q);
+          facts = next J ok E E-is L place ord t (lam st) _ (now st) small (v .facts) (c .none-passes q) q (gone .grays);
         }
 
     done-ok : (t : ℕ) (st : State) → suc t ≡ n → Closed t st → OutOk (edges.ended o J estOrder lctOrder st done)
@@ -378,6 +407,9 @@ module _ (o : ℕ) (J : Tasks natural) (ok : Proper J) (estOrder lctOrder : List
           otherwise = λ z. absurd (z refl);
           over = λ r z. let y : _≡_ {A = ℕ} 0 1 = cc in absurd (omega arith);
           left = all-stand t st done (λ z. let y : _≡_ {A = ℕ} 0 1 = cc in absurd (omega arith)) v;
+          few = omega (arith, v .few);
+          counted = omega (arith, v .counted);
+          final = λ _. (st, subst (λ (t : ℕ). Closed t st) (omega arith) c, refl);
           when-done = λ _. done-same J (now st) (λ k. moment o (getD (map (instant o) (st .starts)) k (pos 0))) (length (st .posts)) (taskOf (st .posts)) (boundOf (st .posts))
               (λ k r. ap (moment o) (getD-map-in (instant o) (st .starts) k 0 (pos 0) (omega (arith, v .known))) ∙ moment-instant o (now st k))
               (finish J ok E E-is L place ord t (lam st) (now st) end (v .facts) (c .none-passes q) (length (st .posts)) (taskOf (st .posts)) (boundOf (st .posts)) (v .posted));
@@ -386,36 +418,45 @@ module _ (o : ℕ) (J : Tasks natural) (ok : Proper J) (estOrder lctOrder : List
     over-ok : (t : ℕ) (st : State) → t < n → Inv t st → exceeds (ectOf (st .leaves)) (En t) ≡ true
         → OutOk (edges.ended o J estOrder lctOrder st (overload (conflict o J (En t) (leaves.sum J estOrder (st .leaves)) (theta J estOrder (st .leaves)))))
     over-ok t st small v q =
+        let wrong = overloaded J ok E E-is L place ord t small (theta-past t st small v q) in
         record {
           goods = v .good;
           above = map-above o (st .starts);
           when-done = λ z. let y : _≡_ {A = ℕ} 0 1 = cc in absurd (omega arith);
-          otherwise = λ _. inl (overloaded J ok E E-is L place ord t small (theta-past t st small v q));
+          final = λ z. let y : _≡_ {A = ℕ} 0 1 = cc in absurd (omega arith);
+          few = omega (arith, v .few);
+          counted = omega (arith, v .counted);
+          otherwise = λ _. inl wrong;
           over = λ r z. let y : conflict o J (En t) (leaves.sum J estOrder (st .leaves)) (theta J estOrder (st .leaves)) ≡ r = cc in
-              subst GoodEnd y (meas .of-end t (st .leaves) (lam st) (shape t st v) small q);
+              subst GoodEnd y (meas .of-end t (st .leaves) (lam st) (shape t st v) small q wrong);
           left = all-stand t st (overload (conflict o J (En t) (leaves.sum J estOrder (st .leaves)) (theta J estOrder (st .leaves)))) (λ z. let y : _≡_ {A = ℕ} 0 1 = cc in absurd (omega arith)) v;
         }
 
-    empty-ok : (st : State) → Conflict J × AllGood (st .posts) × StartsLeft (edges.ended o J estOrder lctOrder st emptied) → OutOk (edges.ended o J estOrder lctOrder st emptied)
-    empty-ok st w = record {
-      goods = w .1;
-      left = w .2;
+    empty-ok : (t : ℕ) (st : State) → t < n → Emptied t st → OutOk (edges.ended o J estOrder lctOrder st emptied)
+    empty-ok t st small w = record {
+      goods = w .goods;
+      left = w .left;
       above = map-above o (st .starts);
       when-done = λ z. let y : _≡_ {A = ℕ} 0 1 = cc in absurd (omega arith);
-      otherwise = λ _. w .0;
+      final = λ z. let y : _≡_ {A = ℕ} 0 1 = cc in absurd (omega arith);
+      otherwise = λ _. w .wrong;
       over = λ r z. let y : _≡_ {A = ℕ} 0 1 = cc in absurd (omega arith);
+      few = omega (arith, w .few);
+      counted = omega (arith, w .counted);
     }
 
     -- the level after one that does not overload
-    pub level-ok : (t : ℕ) (st : State) → suc t < n → Closed t st → exceeds (ectOf (st .leaves)) (En t) ≡ false → TurnOk (suc t) (inner o J estOrder lctOrder n (suc t) (edges.grayed st (rank (L t))))
-    level-ok t st small c z = inner-ok n (suc t) _ small (gray-ok t st (omega arith) c (theta-within t st (omega arith) (c .inv) z)) (card-most J (lam (edges.grayed st (rank (L t)))))
+    pub level-ok : (t : ℕ) (st : State) (u : Turn) → suc t < n → Closed t st → exceeds (ectOf (st .leaves)) (En t) ≡ false
+        → inner o J estOrder lctOrder n (suc t) (edges.grayed st (rank (L t))) ≡ u → TurnOk (Unit {0}) (suc t) u
+    level-ok t st u small c z e = sooner {B = card J (lam (edges.grayed st (rank (L t)))) ≤ n} (suc t) u (λ _. card-most J (lam (edges.grayed st (rank (L t)))))
+        (subst (TurnOk _ (suc t)) e (inner-ok n (suc t) (edges.grayed st (rank (L t))) small (gray-ok t st (omega arith) c (theta-within t st (omega arith) (c .inv) z))))
 
     outer-ok : (f t : ℕ) (st : State) → suc (t + f) ≡ n → Closed t st → OutOk (outer o J estOrder lctOrder f t st)
     outer-ok zero t st end c = rw (outer-end o J estOrder lctOrder 0 t st) (done-ok t st (omega arith) c)
     outer-ok (suc f) t st end c = outer-by o J estOrder lctOrder f t st OutOk (record {
       over = over-ok t st (omega arith) (c .inv);
-      further = λ st′ z e. outer-ok f (suc t) st′ (omega arith) (subst (TurnOk (suc t)) e (level-ok t st (omega arith) c z));
-      empties = λ st′ z e. empty-ok st′ (subst (TurnOk (suc t)) e (level-ok t st (omega arith) c z));
+      further = λ st′ z e. outer-ok f (suc t) st′ (omega arith) (level-ok t st (on st′) (omega arith) c z e .1 tt);
+      empties = λ st′ z e. empty-ok (suc t) st′ (omega arith) (level-ok t st (stop st′) (omega arith) c z e);
     })
 
     -- the start
@@ -431,6 +472,9 @@ module _ (o : ℕ) (J : Tasks natural) (ok : Proper J) (estOrder lctOrder : List
     no-gray : (k : ℕ) → k < n → lam st₀ k ≡ false
     no-gray k q = ap inLambda (leaf₀ k q)
 
+    none-gray : card J (lam st₀) ≡ 0
+    none-gray = card-same J (lam st₀) (λ _. false) no-gray ∙ card-none J
+
     first-facts : Fa 0 (lam st₀) (now st₀)
     first-facts = record {
       fits-before = λ s q. absurd (omega arith);
@@ -442,13 +486,15 @@ module _ (o : ℕ) (J : Tasks natural) (ok : Proper J) (estOrder lctOrder : List
       inside = λ k q. omega (arith, now₀ k q, ok .ranges k q);
     }
 
-    pub first-inv : Inv 0 st₀
+    first-inv : Inv 0 st₀
     first-inv = record {
       size = length-replicate n white;
       whites = λ k q. ap inTheta (leaf₀ k q) ∙ sym (le-leb 0 (place k) (omega arith));
       known = tab-length (J .earliest) 0 n;
       facts = first-facts;
       good = λ j q. absurd (omega arith);
+      few = omega (arith, none-gray);
+      counted = omega (arith, none-gray);
       posted = record {
         small = λ j q. absurd (omega arith);
         raises = λ j q. absurd (omega arith);
@@ -464,3 +510,10 @@ module _ (o : ℕ) (J : Tasks natural) (ok : Proper J) (estOrder lctOrder : List
     pub run-ok : 1 ≤ n → OutOk (run o J estOrder lctOrder)
     unfolding run
     run-ok one = outer-ok (n - 1) 0 st₀ (omega arith) first-closed
+
+  -- a run whose posts and reasons are not asked for
+  pub unasked : Measure (λ _. Unit {0}) (λ _. Unit {0})
+  unasked = record { of-post = λ t ls Λ s x b small f late over is up edge. tt; of-end = λ t ls Λ s small over wrong. tt }
+
+  pub run-left : 1 ≤ n → OutOk (λ _. Unit {0}) (λ _. Unit {0}) unasked (run o J estOrder lctOrder)
+  run-left = run-ok (λ _. Unit {0}) (λ _. Unit {0}) unasked

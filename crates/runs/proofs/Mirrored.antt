@@ -15,7 +15,7 @@ use Rattle.integers.specs.Moments.{Above, instant, zeroAt}
 use Rattle.integers.proofs.FilledLists.{filled-none, filled-more, filled-length, filled-past, filled-all}
 use Rattle.integers.proofs.Lists.{getD-map-in}
 use Rattle.integers.proofs.Ints.{up, dn, ints, sumℤ, sub-law, fits-show}
-use Rattle.integers.proofs.MomentSums.{above-show, at-moment, more-above}
+use Rattle.integers.proofs.MomentSums.{above-show, at-moment}
 use Rattle.scheduling.specs.Scheduling.{whole, natural, Tasks, tasksOf, Proper, Atom, Every, PassesWith, PassesAlone}
 use Rattle.scheduling.specs.Words.{atomWords, no-atom}
 use Rattle.scheduling.specs.MirroredTime.{mirrorStart, mirror, mirrorKind, mirrorAtom, mirrorAtoms, MirroredDone}
@@ -23,7 +23,6 @@ use Rattle.scheduling.proofs.MirroredTime.{at-mirror, start-twice, start-falls,
 use Rattle.scheduling.proofs.MirroredTime.{holds-mirrored}
 use Rattle.scheduling.proofs.Every.{every-append, every-map}
 use Rattle.scheduling.proofs.Processing.{processing-all, processing-less}
-use Rattle.scheduling.proofs.Clocks.{sound}
 use Rattle.scheduling.specs.Moments.{moments}
 use Rattle.scheduling.proofs.Words.{Three, three-words, atoms-length, atom-set}
 use Rattle.runs.specs.Traces.{Post, End, done, overload, emptied, Trace}
@@ -33,10 +32,10 @@ use Rattle.runs.specs.Words.{postWords, reasons, endReason, atomsIn, pos
 use Rattle.runs.specs.MirroredWords.{Near, postsTo, atomsTo}
 use Rattle.runs.specs.Mirrored.{mirrorStarts, durationIn, mirrorPost, mirrorEnd, mirrorTrace, mirroredRun, mirroredPass, MirroredPostRight, MirroredOverloadRight, MirroredRight}
 use Rattle.runs.proofs.WrittenSlices.{posts-length}
-use Rattle.runs.proofs.Demand.{AcceptedTasks, by-earliest, by-completion, demand-3}
+use Rattle.runs.proofs.Demand.{AcceptedTasks, accepted-proper, by-earliest, by-completion, demand-3}
 use Rattle.runs.proofs.WordRoom.{posts-fit, atoms-fit}
 use Rattle.runs.proofs.InnerLoop.{propagate-is}
-use Rattle.runs.proofs.PostReaders.{four-words, startOf}
+use Rattle.runs.proofs.PostReaders.{four-words}
 use Rattle.runs.proofs.AtomShapes.{Shaped, post-shaped, overload-shaped}
 use Rattle.runs.proofs.StartsLeft.{starts-length, starts-between}
 
@@ -166,23 +165,6 @@ module _ (ds : List ℕ) (es ls : List ℤ) where
 
 -- The pass ---------------------------------------------------------------------------------------------------------------------
 
--- the limits of mirrored starts, and of their ends
-low : (p : ℕ) (z : ℤ) → p ≤ DURATIONS → z ≤ℤ pos START → Above MIRRORED (mirrorStart p z)
-unfolding up dn
-low p z h k = omega (ints, at-mirror p z)
-
-low-end : (p : ℕ) (z : ℤ) → z ≤ℤ pos START → Above START (mirrorStart p z +ℤ pos p)
-unfolding up dn
-low-end p z k = omega (ints, at-mirror p z, sumℤ (mirrorStart p z) (pos p))
-
-high : (p : ℕ) (z : ℤ) → Above START z → mirrorStart p z ≤ℤ pos START
-unfolding up dn
-high p z h = omega (ints, at-mirror p z)
-
-wider : (z : ℤ) → z ≤ℤ pos START → z ≤ℤ pos MIRRORED
-unfolding up dn
-wider z h = omega ints
-
 shaped-near : (ds : List ℕ) (es ls : List ℤ) (a : Atom) → Shaped zeroAt (moments zeroAt (tasksOf ds es ls)) (zeroAt - START) (zeroAt + START) DURATIONS a → Near ds a
 unfolding up dn
 shaped-near ds es ls a s = record {
@@ -219,13 +201,10 @@ near-mirrored ds a r = (
 
 pub near-fits : (ds : List ℕ) (a : Atom) → Near ds a → SFits w32 (mirrorStart (durationIn ds (a .variable)) (a .value))
 unfolding up dn
-near-fits ds a r = fits-show w32 z (omega (ints, at-moment MIRRORED z (t .0), t .1)) (omega (ints, at-moment MIRRORED z (t .0), t .1))
-  where
-    z : ℤ
-    z = mirrorStart (durationIn ds (a .variable)) (a .value)
-
-    t : Above MIRRORED (mirrorStart (durationIn ds (a .variable)) (a .value)) × (mirrorStart (durationIn ds (a .variable)) (a .value) ≤ℤ pos MIRRORED)
-    t = near-mirrored ds a r
+near-fits ds a r =
+    let (low, high) = near-mirrored ds a r in
+    let z : ℤ = mirrorStart (durationIn ds (a .variable)) (a .value) in
+    fits-show w32 z (omega (ints, at-moment MIRRORED z low, high)) (omega (ints, at-moment MIRRORED z low, high))
 
 -- What the caller lends, mirrored, is accepted with the wider limit.
 module _ (ds : List ℕ) (es ls : List ℤ) (a : AcceptedTasks START ds es ls) (long-es : length es ≡ length ds) (long-ls : length ls ≡ length ds) where
@@ -241,21 +220,25 @@ module _ (ds : List ℕ) (es ls : List ℤ) (a : AcceptedTasks START ds es ls) (
 
   -- none ends before −START, nor starts after START
   ending : (k : ℕ) → k < length ds → Above START (getD early k (pos 0) +ℤ pos (getD ds k 0))
-  ending k q = subst (λ (z : ℤ). Above START (z +ℤ pos (getD ds k 0))) (sym (mirror-at ds ls long-ls k)) (low-end (getD ds k 0) (getD ls k (pos 0)) (a .to k q))
+  unfolding up dn
+  ending k q =
+      let s : ℤ = mirrorStart (getD ds k 0) (getD ls k (pos 0)) in
+      rw (mirror-at ds ls long-ls k) (omega (ints, at-mirror (getD ds k 0) (getD ls k (pos 0)), sumℤ s (pos (getD ds k 0)), a .to k q))
 
   starting : (k : ℕ) → k < length ds → getD late k (pos 0) ≤ℤ pos START
-  starting k q = subst (λ (z : ℤ). z ≤ℤ pos START) (sym (mirror-at ds es long-es k)) (high (getD ds k 0) (getD es k (pos 0)) (a .from k q))
+  unfolding up dn
+  starting k q = rw (mirror-at ds es long-es k) (omega (ints, at-mirror (getD ds k 0) (getD es k (pos 0)), a .from k q))
 
   pub mirrored-accepted : AcceptedTasks MIRRORED ds (mirrorStarts ds ls) (mirrorStarts ds es)
+  unfolding up dn
   mirrored-accepted = record {
     some = a .some;
     few = a .few;
     lasts = a .lasts;
     sum = a .sum;
-    from = λ k q. subst (Above MIRRORED) (sym (mirror-at ds ls long-ls k)) (low (getD ds k 0) (getD ls k (pos 0)) (lasting k q) (a .to k q));
-    to = λ k q. wider (getD late k (pos 0)) (starting k q);
-    ranges = λ k q. subst (λ (z : ℤ). z ≤ℤ getD (mirrorStarts ds es) k (pos 0)) (sym (mirror-at ds ls long-ls k))
-        (subst (λ (z : ℤ). mirrorStart (getD ds k 0) (getD ls k (pos 0)) ≤ℤ z) (sym (mirror-at ds es long-es k)) (start-falls (getD ds k 0) (getD es k (pos 0)) (getD ls k (pos 0)) (a .ranges k q)));
+    from = λ k q. rw (mirror-at ds ls long-ls k) (omega (ints, at-mirror (getD ds k 0) (getD ls k (pos 0)), lasting k q, a .to k q));
+    to = λ k q. omega (ints, starting k q);
+    ranges = λ k q. rw (mirror-at ds ls long-ls k, mirror-at ds es long-es k) (start-falls (getD ds k 0) (getD es k (pos 0)) (getD ls k (pos 0)) (a .ranges k q));
   }
 
   pub mirrored-right : MirroredRight (tasksOf ds es ls) (mirroredPass ds es ls)
@@ -305,8 +288,7 @@ module _ (ds : List ℕ) (es ls : List ℤ) (a : AcceptedTasks START ds es ls) (
   N = moments zeroAt (tasksOf ds early late)
 
   proper : Proper N
-  proper = sound zeroAt (tasksOf ds early late) (record { ranges = mirrored-accepted .ranges; lasts = mirrored-accepted .lasts })
-      (λ k q. more-above MIRRORED zeroAt (omega arith) (getD early k (pos 0)) (mirrored-accepted .from k q))
+  proper = accepted-proper MIRRORED (omega arith) ds early late mirrored-accepted
 
   pub mirrored-posts-fit : length (postWords 0 (mirroredRun ds es ls .posts)) ≤ 4 * length ds
   mirrored-posts-fit = subst (λ (t : Trace). length (postWords 0 (t .posts)) ≤ 4 * length ds) (sym (propagate-is ds early late))
@@ -349,12 +331,6 @@ module _ (ds : List ℕ) where
 
   pub atoms-mirrored : (t : Trace) → atomsIn (mirrorTrace ds t) ≡ mirrorAtoms (durationIn ds) (atomsIn t)
   atoms-mirrored t = ap₂ (λ (a b : List Atom). a ++ b) (reasons-mirrored (t .posts)) (end-mirrored (t .end)) ∙ sym (map-append (mirrorAtom (durationIn ds)) (reasons (t .posts)) (endReason (t .end)))
-
-  starts : (ps : List Post) (j : ℕ) → startOf (map (mirrorPost ds) ps) j ≡ startOf ps j
-  unfolding startOf
-  starts [] j = refl
-  starts (p ∷ ps) zero = refl
-  starts (p ∷ ps) (suc j) = omega (arith, length-map (p .reason) (mirrorAtom (durationIn ds)), starts ps j)
 
   pub posts-begin : (ps : List Post) → postsTo ds 0 ps ≡ ps
   posts-begin ps = filled-none (λ k. mirrorPost ds (getD ps k no-post)) ps

@@ -1,25 +1,23 @@
 -- The words alone give back each post: its four words, and the atoms of its reason that they name.
 use mathlib.Core.Path.{_≡_, refl, ap, _∙_}
 use mathlib.Core.List.{List, [], _∷_, _++_, append-assoc}
-use Prim.Native.Nat.{ℕ, zero, suc, _+_, _-_, _*_, _≤_, _<_}
+use Prim.Native.Nat.{ℕ, zero, suc, _+_, _*_, _≤_, _<_}
 use native.Mathlib.Omega.{arith}
 use lib.IntN.{ℤ, pos}
 use lib.ListN.{length, getD, take, drop, length-append, length-drop, List·getD-append}
-use lib.Seq.{take-append-seam, drop-append-seam, drop-append-add, drop-append-le, take-append-le, take-length}
+use lib.Seq.{split-at, take-append-seam, drop-append-seam, drop-append-le, take-append-le, take-length}
 use Rattle.scheduling.specs.Scheduling.{Atom}
 use Rattle.runs.specs.Traces.{Post, Trace}
 use Rattle.scheduling.specs.Words.{atomWords}
 use Rattle.runs.specs.Words.{postWords, reasons, endReason, postsAfter, atomsAfter}
 use Rattle.integers.specs.Words.{overwritten}
 use Rattle.scheduling.proofs.Words.{atoms-length, drop-words, take-words}
-use Rattle.runs.proofs.WrittenSlices.{posts-length}
+use Rattle.runs.proofs.WrittenSlices.{posts-length, reasons-append, reasons-suc, reasons-most}
 use Rattle.runs.specs.Demand.{no-post, post}
 
 -- the first atom of post j
 unfoldable pub startOf : List Post → ℕ → ℕ
-startOf [] j = 0
-startOf (p ∷ ps) zero = 0
-startOf (p ∷ ps) (suc j) = length (p .reason) + startOf ps j
+startOf ps j = length (reasons (take j ps))
 
 pub record Four (ws : List ℤ) (at : ℕ) (p : Post) (first : ℕ) : Type 0 where
   pub task : getD ws at (pos 0) ≡ pos (p .task)
@@ -28,7 +26,7 @@ pub record Four (ws : List ℤ) (at : ℕ) (p : Post) (first : ℕ) : Type 0 whe
   pub count : getD ws (at + 3) (pos 0) ≡ pos (length (p .reason))
 
 pub four-words : (ps : List Post) (from j : ℕ) → j < length ps → Four (postWords from ps) (4 * j) (getD ps j no-post) (from + startOf ps j)
-unfolding postWords startOf
+unfolding postWords reasons startOf
 four-words [] from j h = absurd (omega arith)
 four-words (p ∷ ps) from zero h = let z : from ≡ from + 0 = omega arith in record { task = refl; bound = refl; from = ap pos z; count = refl }
 four-words (p ∷ ps) from (suc j) h =
@@ -37,30 +35,26 @@ four-words (p ∷ ps) from (suc j) h =
     let b : 4 * suc j + 1 ≡ suc (suc (suc (suc (4 * j + 1)))) = omega arith in
     let c : 4 * suc j + 2 ≡ suc (suc (suc (suc (4 * j + 2)))) = omega arith in
     let d : 4 * suc j + 3 ≡ suc (suc (suc (suc (4 * j + 3)))) = omega arith in
-    let e : from + length (p .reason) + startOf ps j ≡ from + (length (p .reason) + startOf ps j) = omega arith in
+    let e : from + length (p .reason) + startOf ps j ≡ from + startOf (p ∷ ps) (suc j) = omega (arith, length-append (p .reason) (reasons (take j ps))) in
     record { task = rw a (r .task); bound = rw b (r .bound); from = rw c (r .from ∙ ap pos e); count = rw d (r .count) }
 
 pub stretch : (ps : List Post) (rest : List Atom) (j : ℕ) → j < length ps → take (length (getD ps j no-post .reason)) (drop (startOf ps j) (reasons ps ++ rest)) ≡ getD ps j no-post .reason
 unfolding reasons startOf
-stretch [] rest j h = absurd (omega arith)
-stretch (p ∷ ps) rest zero h = ap (take (length (p .reason))) (append-assoc (p .reason) (reasons ps) rest) ∙ take-append-seam (p .reason) (reasons ps ++ rest)
-stretch (p ∷ ps) rest (suc j) h =
-    ap (λ (l : List Atom). take (length (getD ps j no-post .reason)) (drop (length (p .reason) + startOf ps j) l)) (append-assoc (p .reason) (reasons ps) rest)
-    ∙ ap (take (length (getD ps j no-post .reason))) (drop-append-add (p .reason) (reasons ps ++ rest) (startOf ps j)) ∙ stretch ps rest j (omega arith)
+stretch ps rest j h =
+    let before : List Atom = reasons (take j ps) in
+    let own : List Atom = getD ps j no-post .reason in
+    let after : List Atom = reasons (drop (suc j) ps) in
+    let parts : reasons ps ≡ before ++ (own ++ after) = ap reasons (split-at ps j no-post h) ∙ reasons-append (take j ps) (getD ps j no-post ∷ drop (suc j) ps) in
+    rw (parts, append-assoc before (own ++ after) rest, append-assoc own after rest, drop-append-seam before (own ++ (after ++ rest))) (take-append-seam own (after ++ rest))
 
 bounded : (ps : List Post) (j : ℕ) → j < length ps → startOf ps j + length (getD ps j no-post .reason) ≤ length (reasons ps)
-unfolding reasons startOf
-bounded [] j h = absurd (omega arith)
-bounded (p ∷ ps) zero h = omega (arith, length-append (p .reason) (reasons ps))
-bounded (p ∷ ps) (suc j) h = omega (arith, length-append (p .reason) (reasons ps), bounded ps j (omega arith))
+unfolding startOf
+bounded ps j h = omega (arith, reasons-suc ps j h, reasons-most ps (suc j))
 
 -- the last post's stretch ends where the atoms do
 pub last-ends : (ps : List Post) (j : ℕ) → length ps ≡ suc j → startOf ps j + length (getD ps j no-post .reason) ≡ length (reasons ps)
-unfolding reasons startOf
-last-ends [] j h = absurd (omega arith)
-last-ends (p ∷ []) zero h = omega (arith, length-append (p .reason) (reasons []))
-last-ends (p ∷ q ∷ ps) zero h = absurd (omega arith)
-last-ends (p ∷ ps) (suc j) h = omega (arith, length-append (p .reason) (reasons ps), last-ends ps j (omega arith))
+unfolding startOf
+last-ends ps j h = omega (arith, reasons-suc ps j (omega arith), ap (λ (k : ℕ). length (reasons (take k ps))) h, ap (λ (l : List Post). length (reasons l)) (take-length ps))
 
 -- r atoms from the f-th on, of those written at the front of a slice
 stretch-words : (entry : List ℤ) (all : List Atom) (f r : ℕ) → f + r ≤ length all → take (3 * r) (drop (3 * f) (overwritten entry (atomWords all))) ≡ atomWords (take r (drop f all))

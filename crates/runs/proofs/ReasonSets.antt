@@ -3,7 +3,7 @@
 use mathlib.Core.Path.{_≡_, refl, sym, ap, subst, _∙_}
 use mathlib.Core.Bool.{Bool, true, false, _||_, _&&_}
 use mathlib.Core.Logic.{_⊎_, inl, inr}
-use mathlib.Core.List.{List, [], _∷_, _++_, map}
+use mathlib.Core.List.{List, [], _∷_, _++_}
 use mathlib.Core.Option.{some}
 use Prim.Native.Nat.{ℕ, _+_, _-_, _≤_, _<_, min}
 use native.Mathlib.Omega.{arith}
@@ -19,30 +19,22 @@ use Rattle.scheduling.specs.Scheduling.{natural, Tasks, Proper, TaskSet, In, Es
 use Rattle.scheduling.specs.Moments.{ByEarliest, ByCompletion}
 use Rattle.scheduling.proofs.Sets.{_less_, less-in, less-out}
 use Rattle.scheduling.proofs.Processing.{processing-less, processing-same}
-use Rattle.scheduling.proofs.Levels.{overloaded}
 use Rattle.scheduling.proofs.Suffixes.{suffix-end}
 use Rattle.trees.specs.Ects.{exceeds}
 use Rattle.trees.specs.Leaves.{Leaf, theta, whiteAt, taskAt}
 use Rattle.trees.specs.Leaves as leaves
 use Rattle.trees.specs.Searches.{thetaOf}
-use Rattle.trees.proofs.Ects.{exceeds-yes}
 use Rattle.trees.proofs.RootAnswers as tree
-use Rattle.trees.proofs.WhiteTasks.{theta-in, theta-from}
 use Rattle.runs.specs.Traces.{Post, overload}
 use Rattle.runs.specs.Demand.{post}
 use Rattle.runs.specs.ReasonSets.{named}
-use Rattle.runs.specs.Runs.{atLeast, within, bounds, propagation, propagation-of, run, earliestOrder, completionOrder}
+use Rattle.runs.specs.Runs.{atLeast, within, bounds, propagation, run, earliestOrder, completionOrder}
 use Rattle.runs.proofs.Demand.{by-earliest, by-completion}
-use Rattle.runs.proofs.LevelSteps.{Measure, E, E-is, theta-some, run-ok}
+use Rattle.runs.proofs.LevelSteps.{Measure, run-ok}
 use Rattle.runs.proofs.ReasonWalks as walks
 use Rattle.runs.proofs.WalkStops as stops
 
 -- What the walks name ----------------------------------------------------------------------------------------------------------
-
--- two atoms of one task name it once
-twice : (a b : Bool) → a || (a || b) ≡ a || b
-twice true b = refl
-twice false b = refl
 
 named-append : (xs ys : List Atom) (k : ℕ) → named (xs ++ ys) k ≡ named xs k || named ys k
 unfolding has
@@ -52,28 +44,6 @@ named-append (x ∷ xs) ys k = rw (named-append xs ys k) (or-assoc (eqb (x .vari
     or-assoc : (a b c : Bool) → a || (b || c) ≡ (a || b) || c
     or-assoc true b c = refl
     or-assoc false b c = refl
-
-module _ (o : ℕ) (J : Tasks natural) where
-  within-names : (low high : ℕ) (ks : List ℕ) (k : ℕ) → named (within o J low high ks) k ≡ has ks k
-  unfolding within has
-  within-names low high [] k = refl
-  within-names low high (j ∷ ks) k = rw (within-names low high ks k) (twice (eqb j k) (has ks k))
-
-  bounds-names : (b r last p : ℕ) (ks : List ℕ) (k : ℕ) → named (bounds o J b r last p ks) k ≡ has ks k
-  unfolding bounds has
-  bounds-names b r last p [] k = refl
-  bounds-names b r last p (j ∷ ks) k = by (bool (eqb b (J .earliest j + p))) (bounds-names b r last (p - J .duration j) ks k)
-    where
-      by : (eqb b (J .earliest j + p) ≡ true) ⊎ (eqb b (J .earliest j + p) ≡ false) → named (bounds o J b r last (p - J .duration j) ks) k ≡ has ks k
-          → named (bounds o J b r last p (j ∷ ks)) k ≡ has (j ∷ ks) k
-      by (inl y) ih = rw (y, bounds) (within-names (b - p) last (j ∷ ks) k)
-      by (inr y) ih = rw (y, bounds, ih) (twice (eqb j k) (has ks k))
-
-  reason-names : (i b p r : ℕ) (ks : List ℕ) (k : ℕ) → named (propagation-of o J i b p r ks) k ≡ has ks k || (eqb i k || false)
-  unfolding has
-  reason-names i b p r ks k =
-      named-append (bounds o J b r (r + p + J .duration i - 1) p ks) (atLeast o J i r ∷ []) k
-      ∙ ap (λ (y : Bool). y || (eqb i k || false)) (bounds-names b r (r + p + J .duration i - 1) p ks k)
 
 -- The sets of a post -----------------------------------------------------------------------------------------------------------
 
@@ -125,6 +95,9 @@ module _ (o : ℕ) (J : Tasks natural) (ok : Proper J) (estOrder lctOrder : List
     abbrev m : ℕ
     m = one .m
 
+    abbrev r : ℕ
+    r = min (J .earliest i) (J .earliest (T m))
+
     abbrev whites : List ℕ
     whites = thetaOf (whiteAt ls) (taskAt J estOrder) m (one .left)
 
@@ -139,16 +112,17 @@ module _ (o : ℕ) (J : Tasks natural) (ok : Proper J) (estOrder lctOrder : List
 
     -- the reason names the white tasks from m on, and i
     names : (k : ℕ) → S k ≡ has whites k || (eqb i k || false)
-    names k = ap (λ (l : List Atom). named l k) (one .is) ∙ reason-names o J i b (processing J (λ j. leb m (rank j) && Θ j)) (min (J .earliest i) (J .earliest (T m))) whites k
-
-    has-white : (k : ℕ) → k < n → Θ k ≡ true → m ≤ rank k → has whites k ≡ true
-    has-white k q y h = theta-in (whiteAt ls) (taskAt J estOrder) m (one .left) (rank k) k h (omega (arith, one .all, rk .placed k q)) (s .whites k q ∙ y) (rk .there k q)
+    unfolding has
+    names k =
+        let p : ℕ = processing J (λ j. leb m (rank j) && Θ j) in
+        let w = stops.second-walk o J ok estOrder lctOrder rk ord t ls Λ s small x f over b is up r (r + p + J .duration i - 1) in
+        ap (λ (l : List Atom). named l k) (one .is) ∙ named-append (bounds o J b r (r + p + J .duration i - 1) p whites) (atLeast o J i r ∷ []) k
+        ∙ ap (λ (l : List Atom). named l k || (eqb i k || false)) (w .is) ∙ ap (λ (y : Bool). y || (eqb i k || false)) (walks.between-names o J _ _ whites k)
 
     white-is : (k : ℕ) → has whites k ≡ true → (k < n) × (Θ k ≡ true) × (m ≤ rank k)
     white-is k h =
-        let (j, lo, hi, y, z) = theta-from (whiteAt ls) (taskAt J estOrder) m (one .left) k h in
-        let q : j < n = omega (arith, one .all) in
-        (subst (λ (k : ℕ). k < n) z (rk .task j q), subst (λ (k : ℕ). Θ k ≡ true) z (sym (tree.white-at J ok estOrder rk ls Θ Λ s j q) ∙ y), omega (arith, ap rank z, rk .back j q))
+        let w = walks.listed-in o J ok estOrder lctOrder rk ls Θ Λ s m (one .left) (one .all) k h in
+        let (q, y) = walks.onward-in o J ok estOrder lctOrder rk ls Θ Λ s m k (w .mem) in (w .small, y, q)
 
     self : S i ≡ true
     self = names i ∙ ap (λ (y : Bool). has whites i || (y || false)) (eq-eqb i i refl) ∙ or-right (has whites i) (true || false) refl
@@ -167,7 +141,10 @@ module _ (o : ℕ) (J : Tasks natural) (ok : Proper J) (estOrder lctOrder : List
     ω-in k h = let l = less-in S i k h in elim (cases k (l .0)) [ inl y ↦ white-is k y | inr z ↦ absurd (l .1 (sym z)) ]
 
     ω-out : (k : ℕ) → k < n → Θ k ≡ true → m ≤ rank k → ω k ≡ true
-    ω-out k q y h = less-out S i k (names k ∙ ap (λ (w : Bool). w || (eqb i k || false)) (has-white k q y h)) (λ z. clash (rw z at y) (lt-leb t (index lctOrder i) late))
+    ω-out k q y h =
+        let white : has whites k ≡ true
+        = walks.listed-out o J ok estOrder lctOrder rk ls Θ Λ s m (one .left) (one .all) k (record { small = q; mem = walks.onward-out o J ok estOrder lctOrder rk ls Θ Λ s m k h y }) in
+        less-out S i k (names k ∙ ap (λ (w : Bool). w || (eqb i k || false)) white) (λ z. clash (rw z at y) (lt-leb t (index lctOrder i) late))
 
     onward-ω : (a k : ℕ) → m ≤ a → k < n → leb a (rank k) && ω k ≡ leb a (rank k) && Θ k
     onward-ω a k h q = by (bool (leb a (rank k))) (bool (Θ k)) (bool (ω k))
@@ -244,16 +221,8 @@ module _ (o : ℕ) (J : Tasks natural) (ok : Proper J) (one : 1 ≤ J .count) wh
 
   measure : Measure o J ok eo co (by-earliest J) (by-completion J) (SetsRight o J eo) Overloaded
   measure = record {
-    of-post = λ t ls Λ s x b small f late over is up. sets-right o J ok eo co (by-earliest J) (by-completion J) t ls Λ s small x f late over b is up;
-    of-end = λ t ls Λ s small over.
-        let (b, is, past) = exceeds-yes (leaves.ect J eo ls) (completion J (getD co t 0)) over in
-        overloaded J ok (E o J ok eo co (by-earliest J) (by-completion J)) (E-is o J ok eo co (by-earliest J) (by-completion J)) (λ x. getD co x 0) (λ k. index co k) (by-completion J) t small
-        (omega (
-          arith,
-          past,
-          E-is o J ok eo co (by-earliest J) (by-completion J) (λ k. leb t (index co k)) (getD co t 0, theta-some o J ok eo co (by-earliest J) (by-completion J) t small) .bounds b
-              (stops.ect-is o J ok eo co (by-earliest J) (by-completion J) t ls Λ s small b is .holds),
-        ));
+    of-post = λ t ls Λ s x b small f late over is up edge. sets-right o J ok eo co (by-earliest J) (by-completion J) t ls Λ s small x f late over b is up;
+    of-end = λ t ls Λ s small over wrong. wrong;
   }
 
   -- every post has such sets,

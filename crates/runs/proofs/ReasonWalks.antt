@@ -1,8 +1,8 @@
 -- The walks over the white leaves: where they stop, and what the atoms that they leave say of each task.
-use mathlib.Core.Path.{_≡_, refl, sym, ap, subst, _∙_}
-use mathlib.Core.Bool.{Bool, true, false, cond, _&&_}
-use mathlib.Core.Logic.{_⊎_, inl, inr}
-use mathlib.Core.List.{List, [], _∷_, _++_}
+use mathlib.Core.Path.{_≡_, refl, sym, ap, ap₂, subst, _∙_}
+use mathlib.Core.Bool.{Bool, true, false, cond, _&&_, _||_}
+use mathlib.Core.Logic.{_⊎_, inl, inr, _↔_}
+use mathlib.Core.List.{List, [], _∷_}
 use Prim.Native.Nat.{ℕ, zero, suc, _+_, _-_, _≤_, _<_, min}
 use native.Mathlib.Omega.{arith}
 use native.Mathlib.Decide.{decLt, ℕ-discrete}
@@ -10,13 +10,14 @@ use lib.Dec.{eqb, leb, ltb}
 use lib.IntN.{ℤ, subℕ}
 use lib.Signed.{_≤ℤ_}
 use lib.ListN.{getD}
-use borrow.Author.Tests.{ne-eqb, eq-eqb, eqb-true, eqb-false, leb-true, le-leb, lt-leb, lt-ltb, le-ltb}
-use Rattle.scheduling.specs.Scheduling.{natural, Tasks, Proper, TaskSet, _with_, In, processing}
-use Rattle.integers.proofs.Bools.{leb-step, bool, clash}
+use borrow.Author.Tests.{ne-eqb, eq-eqb, leb-true, le-leb, lt-leb, lt-ltb, le-ltb}
+use Rattle.scheduling.specs.Scheduling.{natural, Tasks, Proper, TaskSet, In, processing}
+use Rattle.integers.proofs.Bools.{leb-step, bool, clash, and-true}
+use Rattle.integers.proofs.Permutations.{has-nil, has-here, has-later, has-cases}
 use Rattle.scheduling.proofs.Sets.{_less_}
 use Rattle.scheduling.proofs.Processing.{processing-same, processing-less, processing-empty}
 use Rattle.scheduling.specs.Moments.{ByEarliest}
-use Rattle.integers.specs.Orders.{index}
+use Rattle.integers.specs.Orders.{index, has}
 use Rattle.scheduling.specs.Scheduling.{Atom}
 use Rattle.trees.specs.Leaves.{Leaf, whiteAt}
 use Rattle.runs.specs.Runs.{within, conflict, conflict-of, bounds, propagation, propagation-of}
@@ -25,32 +26,55 @@ use Rattle.trees.specs.Leaves as leaves
 use Rattle.trees.specs.Leaves.{taskAt}
 use Rattle.trees.specs.Searches.{thetaOf}
 use Rattle.trees.proofs.RootAnswers as tree
-use Rattle.trees.proofs.WhiteTasks.{theta-none, theta-white, theta-skip, theta-is}
+use Rattle.trees.proofs.WhiteTasks.{theta-white, theta-skip, theta-is, theta-in, theta-from}
 use Rattle.scheduling.specs.Scheduling.{Admits}
-use Rattle.runs.proofs.WalkClauses.{within-none, within-more, conflict-hit, conflict-miss, propagation-hit, propagation-miss, bounds-hit, bounds-miss}
+use Rattle.runs.specs.ReasonSets.{named}
+use Rattle.runs.proofs.WalkClauses.{conflict-hit, conflict-miss, propagation-hit, propagation-miss, bounds-hit, bounds-miss}
 
--- what the atoms say of k: nothing, or u ≤ z ≤ v
-abbrev pub Silent : List Atom → ℕ → Type 0
-Silent atoms k = (z : ℤ) → Admits atoms k z
+-- Atoms ------------------------------------------------------------------------------------------------------------------------
 
-pub record Says (atoms : List Atom) (k : ℕ) (u v : ℤ) : Type 0 where
-  pub told : (z : ℤ) → Admits atoms k z → (u ≤ℤ z) × (z ≤ℤ v)
-  pub tells : (z : ℤ) → u ≤ℤ z → z ≤ℤ v → Admits atoms k z
+module _ (o : ℕ) (J : Tasks natural) (lo hi : ℕ → ℕ) where
+  -- each task k of a list starts at lo k or later, and at hi k or earlier
+  pub between : List ℕ → List Atom
+  between [] = []
+  between (k ∷ ks) = edges.atLeast o J k (lo k) ∷ edges.atMost o J k (hi k) ∷ between ks
 
-pub joined : (xs ys : List Atom) (k : ℕ) (z : ℤ) → Admits xs k z → Admits ys k z → Admits (xs ++ ys) k z
-joined [] ys k z a b = b
-joined (x ∷ xs) ys k z a b = (a .0, joined xs ys k z (a .1) b)
+  -- which says just that of a task of the list, and nothing of any other
+  pub between-says : (ks : List ℕ) (k : ℕ) (z : ℤ) → Admits (between ks) k z ↔ (has ks k ≡ true → (subℕ (lo k) o ≤ℤ z) × (z ≤ℤ subℕ (hi k) o))
+  unfolding between
+  between-says [] k z = (λ a h. clash h (has-nil k), λ f. tt)
+  between-says (j ∷ ks) k z = (
+    λ a h. elim (has-cases j k ks h) [
+      | inl e ↦ subst (λ (i : ℕ). (subℕ (lo i) o ≤ℤ z) × (z ≤ℤ subℕ (hi i) o)) e (a .0 e, a .1 .0 e)
+      | inr q ↦ between-says ks k z .0 (a .1 .1) q
+    ],
+    λ f. (λ e. here f e .0, (λ e. here f e .1, between-says ks k z .1 (λ h. f (has-later j k ks h)))),
+  )
+    where
+      here : (has (j ∷ ks) k ≡ true → (subℕ (lo k) o ≤ℤ z) × (z ≤ℤ subℕ (hi k) o)) → j ≡ k → (subℕ (lo j) o ≤ℤ z) × (z ≤ℤ subℕ (hi j) o)
+      here f e = rw e (f (subst (λ (i : ℕ). has (j ∷ ks) i ≡ true) e (has-here j ks)))
 
-pub left-part : (xs ys : List Atom) (k : ℕ) (z : ℤ) → Admits (xs ++ ys) k z → Admits xs k z
-left-part [] ys k z a = tt
-left-part (x ∷ xs) ys k z a = (a .0, left-part xs ys k z (a .1))
+  pub between-names : (ks : List ℕ) (k : ℕ) → named (between ks) k ≡ has ks k
+  unfolding between has
+  between-names [] k = refl
+  between-names (j ∷ ks) k = rw (between-names ks k) (twice (eqb j k))
+    where
+      twice : (a : Bool) → a || (a || has ks k) ≡ a || has ks k
+      twice true = refl
+      twice false = refl
 
-pub right-part : (xs ys : List Atom) (k : ℕ) (z : ℤ) → Admits (xs ++ ys) k z → Admits ys k z
-right-part [] ys k z a = a
-right-part (x ∷ xs) ys k z a = right-part xs ys k z (a .1)
+  between-more : (k : ℕ) (ks : List ℕ) → between (k ∷ ks) ≡ edges.atLeast o J k (lo k) ∷ edges.atMost o J k (hi k) ∷ between ks
+  unfolding between
+  between-more k ks = refl
 
-pub says-then : (xs ys : List Atom) (k : ℕ) (u v : ℤ) → Says xs k u v → Silent ys k → Says (xs ++ ys) k u v
-says-then xs ys k u v s q = record { told = λ z a. s .told z (left-part xs ys k z a); tells = λ z a b. joined xs ys k z (s .tells z a b) (q z) }
+  pub within-between : (low high : ℕ) (ks : List ℕ) → ((k : ℕ) → has ks k ≡ true → (low ≡ lo k) × (high - J .duration k ≡ hi k)) → within o J low high ks ≡ between ks
+  unfolding within between
+  within-between low high [] h = refl
+  within-between low high (k ∷ ks) h =
+      let (a, b) = h k (has-here k ks) in
+      rw (within-between low high ks (λ j q. h j (has-later k j ks q))) (ap₂ (λ (u v : ℕ). edges.atLeast o J k u ∷ edges.atMost o J k v ∷ between ks) a b)
+
+-- The walks --------------------------------------------------------------------------------------------------------------------
 
 module _ (o : ℕ) (J : Tasks natural) (ok : Proper J) (estOrder lctOrder : List ℕ) (rk : ByEarliest J (λ j. getD estOrder j 0) (λ k. index estOrder k)) (ls : List Leaf) (Θ Λ : TaskSet)
     (s : tree.Represents J ok estOrder rk ls Θ Λ) where
@@ -81,11 +105,7 @@ module _ (o : ℕ) (J : Tasks natural) (ok : Proper J) (estOrder lctOrder : List
   dr a = processing J (onward a)
 
   pub onward-in : (a k : ℕ) → onward a k ≡ true → (a ≤ rank k) × (Θ k ≡ true)
-  onward-in a k h = go (leb a (rank k)) refl h
-    where
-      go : (b : Bool) → leb a (rank k) ≡ b → b && Θ k ≡ true → (a ≤ rank k) × (Θ k ≡ true)
-      go true e q = (leb-true _ _ e, q)
-      go false e q = clash q refl
+  onward-in a k h = let (y, q) = and-true (leb a (rank k)) (Θ k) h in (leb-true a (rank k) y, q)
 
   pub onward-out : (a k : ℕ) → a ≤ rank k → Θ k ≡ true → onward a k ≡ true
   onward-out a k h q = rw (le-leb _ _ h) q
@@ -134,112 +154,89 @@ module _ (o : ℕ) (J : Tasks natural) (ok : Proper J) (estOrder lctOrder : List
   th-out : (a d : ℕ) → a < n → Θ (T a) ≡ false → th a (suc d) ≡ th (suc a) d
   th-out a d q y = theta-skip (whiteAt ls) (taskAt J estOrder) a d (white-at a q ∙ y)
 
-  -- atoms
-  two-here : (k u v : ℕ) (rest : List Atom) → Silent rest k → Says (edges.atLeast o J k u ∷ edges.atMost o J k v ∷ rest) k (at u) (at v)
-  two-here k u v rest q = record { told = λ z a. (a .0 refl, a .1 .0 refl); tells = λ z a b. (λ _. a, (λ _. b, q z)) }
+  -- it has the white tasks from a on
+  module _ (a d : ℕ) (all : a + d ≡ n) where
+    pub listed-in : (k : ℕ) → has (th a d) k ≡ true → In J (onward a) k
+    listed-in k h =
+        let (j, lo, hi, y, z) = theta-from (whiteAt ls) (taskAt J estOrder) a d k h in
+        let q : j < n = omega arith in
+        subst (In J (onward a)) z (record { small = rk .task j q; mem = onward-out a (T j) (omega (arith, rk .back j q)) (sym (white-at j q) ∙ y) })
 
-  two-other : (j k u v : ℕ) (rest : List Atom) (x y : ℤ) → (j ≡ k → ⊥) → Says rest k x y → Says (edges.atLeast o J j u ∷ edges.atMost o J j v ∷ rest) k x y
-  two-other j k u v rest x y ne q = record { told = λ z a. q .told z (a .1 .1); tells = λ z a b. (λ e. absurd (ne e), (λ e. absurd (ne e), q .tells z a b)) }
+    pub listed-out : (k : ℕ) → In J (onward a) k → has (th a d) k ≡ true
+    listed-out k h =
+        let (q, y) = onward-in a k (h .mem) in
+        let r : rank k < n = rk .placed k (h .small) in
+        theta-in (whiteAt ls) (taskAt J estOrder) a d (rank k) k q (omega arith) (s .whites k (h .small) ∙ y) (rk .there k (h .small))
 
-  two-silent : (j k u v : ℕ) (rest : List Atom) → (j ≡ k → ⊥) → Silent rest k → Silent (edges.atLeast o J j u ∷ edges.atMost o J j v ∷ rest) k
-  two-silent j k u v rest ne q z = (λ e. absurd (ne e), (λ e. absurd (ne e), q z))
+    pub listed-says : (lo hi : ℕ → ℕ) (k : ℕ) (z : ℤ) → Admits (between o J lo hi (th a d)) k z ↔ (In J (onward a) k → (at (lo k) ≤ℤ z) × (z ≤ℤ at (hi k)))
+    listed-says lo hi k z = let e = between-says o J lo hi (th a d) k z in (λ u h. e .0 u (listed-out k h), λ f. e .1 (λ h. f (listed-in k h)))
 
-  -- no white task from place a on is k
-  abbrev pub Out : ℕ → ℕ → Type 0
-  Out a k = (x : ℕ) → a ≤ x → x < n → Θ (T x) ≡ true → T x ≡ k → ⊥
+    left-over : (x : ℕ) → a ≤ x → x < n → Θ (T x) ≡ true → th a d ≡ [] → ⊥
+    left-over x q r y e = clash (listed-out (T x) (record { small = rk .task x r; mem = onward-out a (T x) (omega (arith, rk .back x r)) y })) (ap (λ (l : List ℕ). has l (T x)) e ∙ has-nil (T x))
 
-  pub out-later : (a k : ℕ) → Out a k → Out (suc a) k
-  out-later a k h x q = h x (omega arith)
-
-  out-next : (a k : ℕ) → k < n → rank k ≡ a → Out (suc a) k
-  out-next a k q z x r t y e = omega (arith, rk .back x t, ap rank e)
-
-  th-nil : (a : ℕ) → th a 0 ≡ []
-  th-nil a = theta-none (whiteAt ls) (taskAt J estOrder) a
-
-  -- what `within` says of the list from a on
-  pub within-silent : (lo hi d a k : ℕ) → a + d ≡ n → Out a k → Silent (within o J lo hi (th a d)) k
-  within-silent lo hi zero a k z h = rw (th-nil a, within-none o J lo hi) (λ z. tt)
-  within-silent lo hi (suc d) a k z h = by (within-silent lo hi d (suc a) k (omega arith) (out-later a k h)) (bool (Θ (T a)))
-    where
-      by : Silent (within o J lo hi (th (suc a) d)) k → (Θ (T a) ≡ true) ⊎ (Θ (T a) ≡ false) → Silent (within o J lo hi (th a (suc d))) k
-      by ih (inl y) = rw (th-in a d (omega arith) y, within-more o J lo hi (T a) (th (suc a) d))
-          (two-silent (T a) k lo (hi - J .duration (T a)) (within o J lo hi (th (suc a) d)) (h a (omega arith) (omega arith) y) ih)
-      by ih (inr y) = rw (th-out a d (omega arith) y) ih
-
-  pub within-says : (lo hi d a k : ℕ) → a + d ≡ n → k < n → Θ k ≡ true → a ≤ rank k → Says (within o J lo hi (th a d)) k (at lo) (at (hi - J .duration k))
-  within-says lo hi zero a k z small mem q = absurd (omega (arith, rk .placed k small))
-  within-says lo hi (suc d) a k z small mem q = elim (ℕ-discrete (rank k) a) [
-    | yes w ↦ (let e : k ≡ T a = placed a k small w in
-        rw (th-in a d (omega arith) (rw e at mem), within-more o J lo hi (T a) (th (suc a) d), ← e)
-        (two-here k lo (hi - J .duration k) (within o J lo hi (th (suc a) d)) (within-silent lo hi d (suc a) k (omega arith) (out-next a k small w))))
-    | no w ↦ by (within-says lo hi d (suc a) k (omega arith) small mem (omega arith)) (bool (Θ (T a))) (λ e. w (omega (arith, ap rank e, rk .back a (omega arith))))
-  ]
-    where
-      by : Says (within o J lo hi (th (suc a) d)) k (at lo) (at (hi - J .duration k)) → (Θ (T a) ≡ true) ⊎ (Θ (T a) ≡ false) → (T a ≡ k → ⊥)
-          → Says (within o J lo hi (th a (suc d))) k (at lo) (at (hi - J .duration k))
-      by ih (inl y) ne = rw (th-in a d (omega arith) y, within-more o J lo hi (T a) (th (suc a) d))
-          (two-other (T a) k lo (hi - J .duration (T a)) (within o J lo hi (th (suc a) d)) (at lo) (at (hi - J .duration k)) ne ih)
-      by ih (inr y) ne = rw (th-out a d (omega arith) y) ih
-
-  -- a white leaf is in the list
-  th-some : (d a x : ℕ) → a + d ≡ n → a ≤ x → x < n → Θ (T x) ≡ true → th a d ≡ [] → ⊥
-  th-some zero a x z q r y e = omega arith
-  th-some (suc d) a x z q r y e = by (λ g. th-some d (suc a) x (omega arith) g r y) (bool (Θ (T a)))
-    where
-      cons : {k : ℕ} {ks : List ℕ} → _≡_ {A = List ℕ} (k ∷ ks) [] → ⊥
-      cons u = let w : _≡_ {A = ℕ} 0 1 = cc in omega arith
-
-      by : (suc a ≤ x → th (suc a) d ≡ [] → ⊥) → (Θ (T a) ≡ true) ⊎ (Θ (T a) ≡ false) → ⊥
-      by ih (inl v) = cons (sym (th-in a d (omega arith) v) ∙ e)
-      by ih (inr v) = elim (ℕ-discrete a x) [ yes w ↦ clash (rw (← w) at y) v | no w ↦ ih (omega arith) (sym (th-out a d (omega arith) v) ∙ e) ]
-
-  -- where a walk stops: at the first white leaf from a on whose reach passes c; and the atoms from there on ---------------------------
-  pub record Stops (c : ℕ) (reach : ℕ → ℕ) (from : ℕ → ℕ → List Atom) (a : ℕ) (atoms : List Atom) : Type 0 where
+  -- where a walk stops: at the first white leaf from a on that it hits; and what it leaves from there on --------------------------
+  pub record Stops (Hit Miss : ℕ → Type 0) (Leaves : ℕ → ℕ → Type 0) (a : ℕ) : Type 0 where
     pub m : ℕ
     pub left : ℕ
     pub all : m + left ≡ n
+    pub from : a ≤ m
     pub small : m < n
     pub mem : Θ (T m) ≡ true
-    pub over : c < reach m
-    pub before : (j : ℕ) → a ≤ j → j < m → Θ (T j) ≡ true → reach j ≤ c
-    pub is : atoms ≡ from m left
+    pub over : Hit m
+    pub before : (j : ℕ) → a ≤ j → j < m → Θ (T j) ≡ true → Miss j
+    pub is : Leaves m left
 
-  -- a walk that stops where the reach passes c, and goes on to the next leaf otherwise
-  module _ (c : ℕ) (reach : ℕ → ℕ) (from : ℕ → ℕ → List Atom) (walk : ℕ → List ℕ → List Atom)
-      (hit : (a d : ℕ) → a < n → Θ (T a) ≡ true → c < reach a → walk (dr a) (th a (suc d)) ≡ from a (suc d))
-      (miss : (a d : ℕ) → a < n → Θ (T a) ≡ true → reach a ≤ c → (th (suc a) d ≡ [] → ⊥) → walk (dr a) (th a (suc d)) ≡ walk (dr (suc a)) (th (suc a) d)) where
+  -- `Leaves a d m left` is what the walk leaves over the d leaves from a on, where it stops at m with `left` leaves left
+  module _ (Hit Miss : ℕ → Type 0) (decide : (a : ℕ) → Hit a ⊎ Miss a) (clear : (a : ℕ) → Hit a → Miss a → ⊥) (Leaves : ℕ → ℕ → ℕ → ℕ → Type 0)
+      (hit : (a d : ℕ) → a + suc d ≡ n → Θ (T a) ≡ true → Hit a → Leaves a (suc d) a (suc d))
+      (miss : (a d m left : ℕ) → a + suc d ≡ n → a < m → Θ (T a) ≡ true → Miss a → (th (suc a) d ≡ [] → ⊥) → Leaves (suc a) d m left → Leaves a (suc d) m left)
+      (pass : (a d m left : ℕ) → th a (suc d) ≡ th (suc a) d → dr a ≡ dr (suc a) → Leaves (suc a) d m left → Leaves a (suc d) m left) where
     -- one place more before the walk
-    earlier : (a : ℕ) {atoms : List Atom} → (Θ (T a) ≡ true → reach a ≤ c) → Stops c reach from (suc a) atoms → Stops c reach from a atoms
-    earlier a h f = record {
+    earlier : (a d : ℕ) → (Θ (T a) ≡ true → Miss a) → (f : Stops Hit Miss (Leaves (suc a) d) (suc a)) → Leaves a (suc d) (f .m) (f .left) → Stops Hit Miss (Leaves a (suc d)) a
+    earlier a d h f l = record {
       m = f .m;
       left = f .left;
       all = f .all;
+      from = omega (arith, f .from);
       small = f .small;
       mem = f .mem;
       over = f .over;
-      is = f .is;
-      before = λ j q r y. elim (ℕ-discrete a j) [ yes w ↦ subst (λ (j : ℕ). reach j ≤ c) w (h (subst (λ (j : ℕ). Θ (T j) ≡ true) (sym w) y)) | no w ↦ f .before j (omega arith) r y ];
+      is = l;
+      before = λ j q r y. elim (ℕ-discrete a j) [ yes w ↦ subst Miss w (h (rw w y)) | no w ↦ f .before j (omega arith) r y ];
     }
 
-    stops : (d a x : ℕ) → a + d ≡ n → a ≤ x → x < n → Θ (T x) ≡ true → c < reach x → Stops c reach from a (walk (dr a) (th a d))
+    stops : (d a x : ℕ) → a + d ≡ n → a ≤ x → x < n → Θ (T x) ≡ true → Hit x → Stops Hit Miss (Leaves a d) a
     stops zero a x z q r y over = absurd (omega arith)
-    stops (suc d) a x z q r y over = by (λ g. stops d (suc a) x (omega arith) g r y over) (bool (Θ (T a)))
+    stops (suc d) a x z q r y over = by (λ g. stops d (suc a) x (omega arith) g r y over) (bool (Θ (T a))) (decide a)
       where
-        by : (suc a ≤ x → Stops c reach from (suc a) (walk (dr (suc a)) (th (suc a) d))) → (Θ (T a) ≡ true) ⊎ (Θ (T a) ≡ false) → Stops c reach from a (walk (dr a) (th a (suc d)))
-        by ih (inr v) = elim (ℕ-discrete a x)
-            [ yes w ↦ clash (rw (← w) at y) v | no w ↦ rw (th-out a d (omega arith) v, skip a (omega arith) v) (earlier a (λ t. clash t v) (ih (omega arith))) ]
-        by ih (inl v) = elim (decLt c (reach a)) [
-          | yes u ↦ record { m = a; left = suc d; all = z; small = omega arith; mem = v; over = u; before = λ j q r y. absurd (omega arith); is = hit a d (omega arith) v u }
-          | no u ↦ elim (ℕ-discrete a x) [
-            | yes w ↦ absurd (u (subst (λ (j : ℕ). c < reach j) (sym w) over))
-            | no w ↦ rw (miss a d (omega arith) v (omega arith) (th-some d (suc a) x (omega arith) (omega arith) r y)) (earlier a (λ _. omega arith) (ih (omega arith)))
-          ]
-        ]
+        next : (Θ (T a) ≡ false) ⊎ Miss a → suc a ≤ x
+        next (inl v) = elim (ℕ-discrete a x) [ yes w ↦ clash (rw (← w) at y) v | no w ↦ omega arith ]
+        next (inr u) = elim (ℕ-discrete a x) [ yes w ↦ absurd (clear x over (subst Miss w u)) | no w ↦ omega arith ]
+
+        by : (suc a ≤ x → Stops Hit Miss (Leaves (suc a) d) (suc a)) → (Θ (T a) ≡ true) ⊎ (Θ (T a) ≡ false) → Hit a ⊎ Miss a → Stops Hit Miss (Leaves a (suc d)) a
+        by ih (inr v) u = let f = ih (next (inl v)) in earlier a d (λ t. clash t v) f (pass a d (f .m) (f .left) (th-out a d (omega arith) v) (skip a (omega arith) v) (f .is))
+        by ih (inl v) (inl u) = record { m = a; left = suc d; all = z; from = omega arith; small = omega arith; mem = v; over = u; before = λ j q r y. absurd (omega arith); is = hit a d z v u }
+        by ih (inl v) (inr u) = let f = ih (next (inr u)) in
+            earlier a d (λ _. u) f (miss a d (f .m) (f .left) z (omega (arith, f .from)) v u (left-over (suc a) d (omega arith) x (next (inr u)) r y) (f .is))
+
+  -- a walk that stops where its reach passes c, with F of the tasks from there on
+  module _ (c : ℕ) (reach : ℕ → ℕ) (F : ℕ → List ℕ → List Atom) where
+    abbrev pub Passing : List Atom → Type 0
+    Passing atoms = Stops (λ m. c < reach m) (λ m. reach m ≤ c) (λ m left. atoms ≡ F m (th m left)) 0
+
+    passing : (walk : ℕ → List ℕ → List Atom) → ((a : ℕ) (ks : List ℕ) → c < reach a → walk (dr a) (T a ∷ ks) ≡ F a (T a ∷ ks))
+        → ((a : ℕ) (ks : List ℕ) → reach a ≤ c → (ks ≡ [] → ⊥) → walk (dr a) (T a ∷ ks) ≡ walk (dr a - J .duration (T a)) ks)
+        → (x : ℕ) → x < n → Θ (T x) ≡ true → c < reach x → Passing (walk (leaves.sum J estOrder ls) (leaves.theta J estOrder ls))
+    passing walk hit miss x small mem over = rw (sum-is, theta-is J estOrder ls)
+        (stops (λ m. c < reach m) (λ m. reach m ≤ c) (λ a. elim (decLt c (reach a)) [ yes u ↦ inl u | no u ↦ inr (omega arith) ]) (λ a p q. omega arith)
+        (λ a d m left. walk (dr a) (th a d) ≡ F m (th m left))
+        (λ a d z v u. rw (th-in a d (omega arith) v) (hit a (th (suc a) d) u))
+        (λ a d m left z r v u ne g. rw (th-in a d (omega arith) v) (miss a (th (suc a) d) u ne ∙ ap (λ (p : ℕ). walk p (th (suc a) d)) (omega (arith, step a (omega arith) v)) ∙ g))
+        (λ a d m left e f g. rw (e, f) g) n 0 x (omega arith) (omega arith) small mem over)
 
   -- the overload's
   abbrev pub Stopped : ℕ → List Atom → Type 0
-  Stopped c = Stops c (λ m. ea m + dr m) (λ m left. conflict-of o J c (dr m) (ea m) (th m left)) 0
+  Stopped c = Passing c (λ m. ea m + dr m) (λ m. conflict-of o J c (dr m) (ea m))
 
   -- one step of it, where tasks are left
   conflict-on : (c p k : ℕ) (ks : List ℕ) → ltb c (J .earliest k + p) ≡ false → (ks ≡ [] → ⊥) → conflict o J c p (k ∷ ks) ≡ conflict o J c (p - J .duration k) ks
@@ -247,11 +244,8 @@ module _ (o : ℕ) (J : Tasks natural) (ok : Proper J) (estOrder lctOrder : List
   conflict-on c p k (j ∷ ks) y ne = conflict-miss o J c p k j ks y
 
   pub conflict-stops : (c x : ℕ) → x < n → Θ (T x) ≡ true → c < ea x + dr x → Stopped c (conflict o J c (leaves.sum J estOrder ls) (leaves.theta J estOrder ls))
-  conflict-stops c x small mem over = rw (sum-is, theta-is J estOrder ls)
-      (stops c (λ m. ea m + dr m) (λ m left. conflict-of o J c (dr m) (ea m) (th m left)) (conflict o J c)
-      (λ a d q v u. rw (th-in a d q v) (conflict-hit o J c (dr a) (T a) (th (suc a) d) (lt-ltb c (ea a + dr a) u)))
-      (λ a d q v u ne. rw (th-in a d q v, conflict-on c (dr a) (T a) (th (suc a) d) (le-ltb c (ea a + dr a) u) ne) (ap (λ (p : ℕ). conflict o J c p (th (suc a) d)) (omega (arith, step a q v))))
-      n 0 x (omega arith) (omega arith) small mem over)
+  conflict-stops c = passing c (λ m. ea m + dr m) (λ m. conflict-of o J c (dr m) (ea m)) (conflict o J c)
+      (λ a ks u. conflict-hit o J c (dr a) (T a) ks (lt-ltb c (ea a + dr a) u)) (λ a ks u ne. conflict-on c (dr a) (T a) ks (le-ltb c (ea a + dr a) u) ne)
 
   -- the first of a post's reason
   module _ (i c b : ℕ) where
@@ -259,92 +253,40 @@ module _ (o : ℕ) (J : Tasks natural) (ok : Proper J) (estOrder lctOrder : List
     reach m = min (J .earliest i) (ea m) + dr m + J .duration i
 
     abbrev pub First : List Atom → Type 0
-    First = Stops c reach (λ m left. propagation-of o J i b (dr m) (min (J .earliest i) (ea m)) (th m left)) 0
+    First = Passing c reach (λ m. propagation-of o J i b (dr m) (min (J .earliest i) (ea m)))
 
     pub first-stops : (x : ℕ) → x < n → Θ (T x) ≡ true → c < reach x → First (propagation o J i b c (leaves.sum J estOrder ls) (leaves.theta J estOrder ls))
-    first-stops x small mem over = rw (sum-is, theta-is J estOrder ls)
-        (stops c reach (λ m left. propagation-of o J i b (dr m) (min (J .earliest i) (ea m)) (th m left)) (propagation o J i b c)
-        (λ a d q v u. rw (th-in a d q v) (propagation-hit o J i b c (dr a) (T a) (th (suc a) d) (lt-ltb c (reach a) u)))
-        (λ a d q v u ne. rw (th-in a d q v, propagation-miss o J i b c (dr a) (T a) (th (suc a) d) (le-ltb c (reach a) u))
-        (ap (λ (p : ℕ). propagation o J i b c p (th (suc a) d)) (omega (arith, step a q v))))
-        n 0 x (omega arith) (omega arith) small mem over)
+    first-stops = passing c reach (λ m. propagation-of o J i b (dr m) (min (J .earliest i) (ea m))) (propagation o J i b c)
+        (λ a ks u. propagation-hit o J i b c (dr a) (T a) ks (lt-ltb c (reach a) u)) (λ a ks u ne. propagation-miss o J i b c (dr a) (T a) ks (le-ltb c (reach a) u))
 
-  -- and the second: what it leaves says of each task ------------------------------------------------------------------------------
+  -- and the second, which bounds each task from a on
   module _ (b r last : ℕ) where
-    abbrev low : ℕ → ℕ → ℕ
+    abbrev pub low : ℕ → ℕ → ℕ
     low m k = cond (onward m k) (ea m) r
 
-    pub record Second (a : ℕ) (atoms : List Atom) : Type 0 where
-      pub m : ℕ
-      pub from : a ≤ m
-      pub small : m < n
-      pub mem : Θ (T m) ≡ true
-      pub attains : ea m + dr m ≡ b
-      pub says : (k : ℕ) → k < n → Θ k ≡ true → a ≤ rank k → Says atoms k (at (low m k)) (at (last - J .duration k))
-      pub silent : (k : ℕ) → Out a k → Silent atoms k
+    abbrev high : ℕ → ℕ
+    high k = last - J .duration k
 
-    found-here : (d a p : ℕ) → a + suc d ≡ n → Θ (T a) ≡ true → p ≡ dr a → b ≡ ea a + p → Second a (within o J (b - p) last (th a (suc d)))
-    found-here d a p z v e att = record {
-      m = a;
-      from = omega arith;
-      small = omega arith;
-      mem = v;
-      attains = omega (arith, e, att);
-      says = λ k q y h. let u : b - p ≡ ea a = omega arith in
-          rw (onward-out a k h y) (subst (λ (lo : ℕ). Says (within o J (b - p) last (th a (suc d))) k (at lo) (at (last - J .duration k))) u (within-says (b - p) last (suc d) a k z q y h));
-      silent = λ k h. within-silent (b - p) last (suc d) a k z h;
-    }
+    abbrev Bounds : ℕ → ℕ → ℕ → ℕ → Type 0
+    Bounds a d m left = bounds o J b r last (dr a) (th a d) ≡ between o J (low m) high (th a d)
 
-    passed : (d a p : ℕ) → a + suc d ≡ n → Θ (T a) ≡ true → Second (suc a) (bounds o J b r last (p - J .duration (T a)) (th (suc a) d))
-        → Second a (edges.atLeast o J (T a) r ∷ edges.atMost o J (T a) (last - J .duration (T a)) ∷ bounds o J b r last (p - J .duration (T a)) (th (suc a) d))
-    passed d a p z v f = record {
-      m = f .m;
-      from = omega (arith, f .from);
-      small = f .small;
-      mem = f .mem;
-      attains = f .attains;
-      says = says;
-      silent = λ k h. two-silent (T a) k r (last - J .duration (T a)) rest (h a (omega arith) (omega arith) v) (f .silent k (out-later a k h));
-    }
-      where
-        rest : List Atom
-        rest = bounds o J b r last (p - J .duration (T a)) (th (suc a) d)
+    abbrev pub Second : ℕ → ℕ → Type 0
+    Second d a = Stops (λ m. ea m + dr m ≡ b) (λ m. ea m + dr m ≡ b → ⊥) (λ m left. bounds o J b r last (dr a) (th a d) ≡ between o J (low m) (λ k. last - J .duration k) (th a d)) a
 
-        says : (k : ℕ) → k < n → Θ k ≡ true → a ≤ rank k → Says (edges.atLeast o J (T a) r ∷ edges.atMost o J (T a) (last - J .duration (T a)) ∷ rest) k (at (low (f .m) k)) (at (last - J .duration k))
-        says k q y h = elim (ℕ-discrete (rank k) a) [
-          | yes w ↦ (let e : k ≡ T a = placed a k q w in
-              rw (onward-early (f .m) k (omega (arith, f .from)), ← e)
-              (two-here k r (last - J .duration k) _ (subst (λ (j : ℕ). Silent (bounds o J b r last (p - J .duration j) (th (suc a) d)) k) (sym e) (f .silent k (out-next a k q w)))))
-          | no w ↦ two-other (T a) k r (last - J .duration (T a)) rest (at (low (f .m) k)) (at (last - J .duration k)) (λ e. w (omega (arith, ap rank e, rk .back a (omega arith))))
-              (f .says k q y (omega arith))
-        ]
+    found : (a d : ℕ) → a + suc d ≡ n → Θ (T a) ≡ true → ea a + dr a ≡ b → Bounds a (suc d) a (suc d)
+    found a d z v e =
+        ap (bounds o J b r last (dr a)) (th-in a d (omega arith) v)
+        ∙ bounds-hit o J b r last (dr a) (T a) (th (suc a) d) (eq-eqb b (ea a + dr a) (sym e))
+        ∙ ap (within o J (b - dr a) last) (sym (th-in a d (omega arith) v))
+        ∙ within-between o J (low a) high (b - dr a) last (th a (suc d)) (λ k h. (rw (listed-in a (suc d) z k h .mem) (omega arith), refl))
 
-    pub second-stops : (d a p x : ℕ) → a + d ≡ n → p ≡ dr a → a ≤ x → x < n → Θ (T x) ≡ true → ea x + dr x ≡ b → Second a (bounds o J b r last p (th a d))
-    second-stops zero a p x z e q t y att = absurd (omega arith)
-    second-stops (suc d) a p x z e q t y att =
-        by (λ p′ e′ g. second-stops d (suc a) p′ x (omega arith) e′ g t y att) (bool (Θ (T a))) (bool (eqb b (ea a + p)))
-      where
-        IH : Type 0
-        IH = (p′ : ℕ) → p′ ≡ dr (suc a) → suc a ≤ x → Second (suc a) (bounds o J b r last p′ (th (suc a) d))
+    passed : (a d m left : ℕ) → a + suc d ≡ n → a < m → Θ (T a) ≡ true → (ea a + dr a ≡ b → ⊥) → (th (suc a) d ≡ [] → ⊥) → Bounds (suc a) d m left → Bounds a (suc d) m left
+    passed a d m left z q v ne some g =
+        let early : onward m (T a) ≡ false = onward-early m (T a) (omega (arith, rk .back a (omega arith))) in
+        let rest : dr a - J .duration (T a) ≡ dr (suc a) = omega (arith, step a (omega arith) v) in
+        rw (th-in a d (omega arith) v, bounds-miss o J b r last (dr a) (T a) (th (suc a) d) (ne-eqb b (ea a + dr a) (λ e. ne (sym e))), between-more o J (low m) high (T a) (th (suc a) d), early, rest)
+        (ap (λ (l : List Atom). edges.atLeast o J (T a) r ∷ edges.atMost o J (T a) (high (T a)) ∷ l) g)
 
-        -- no white leaf at a
-        over : Θ (T a) ≡ false → Second (suc a) (bounds o J b r last p (th (suc a) d)) → Second a (bounds o J b r last p (th (suc a) d))
-        over v f = record {
-          m = f .m;
-          from = omega (arith, f .from);
-          small = f .small;
-          mem = f .mem;
-          attains = f .attains;
-          silent = λ k h. f .silent k (out-later a k h);
-          says = λ k q y h. elim (ℕ-discrete (rank k) a) [ yes w ↦ clash y (ap Θ (placed a k q w) ∙ v) | no w ↦ f .says k q y (omega arith) ];
-        }
-
-        by : IH → (Θ (T a) ≡ true) ⊎ (Θ (T a) ≡ false) → (eqb b (ea a + p) ≡ true) ⊎ (eqb b (ea a + p) ≡ false) → Second a (bounds o J b r last p (th a (suc d)))
-        by ih (inr v) u = elim (ℕ-discrete a x)
-            [ yes w ↦ clash (rw (← w) at y) v | no w ↦ rw (th-out a d (omega arith) v) (over v (ih p (e ∙ skip a (omega arith) v) (omega arith))) ]
-        by ih (inl v) (inl u) = rw (th-in a d (omega arith) v, bounds-hit o J b r last p (T a) (th (suc a) d) u, ← th-in a d (omega arith) v) (found-here d a p z v e (eqb-true b (ea a + p) u))
-        by ih (inl v) (inr u) = elim (ℕ-discrete a x) [
-          | yes w ↦ absurd (eqb-false b (ea a + p) u (omega (arith, e, subst (λ (x : ℕ). ea x + dr x ≡ b) (sym w) att)))
-          | no w ↦ rw (th-in a d (omega arith) v, bounds-miss o J b r last p (T a) (th (suc a) d) u)
-              (passed d a p z v (ih (p - J .duration (T a)) (omega (arith, e, step a (omega arith) v)) (omega arith)))
-        ]
+    pub second-stops : (d a x : ℕ) → a + d ≡ n → a ≤ x → x < n → Θ (T x) ≡ true → ea x + dr x ≡ b → Second d a
+    second-stops = stops (λ m. ea m + dr m ≡ b) (λ m. ea m + dr m ≡ b → ⊥) (λ a. elim (ℕ-discrete (ea a + dr a) b) [ yes e ↦ inl e | no ne ↦ inr ne ]) (λ a e ne. ne e)
+        Bounds found passed (λ a d m left e f g. rw (e, f) g)

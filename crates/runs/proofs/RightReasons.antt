@@ -1,28 +1,25 @@
 -- Every post of a run and every overload's reason is right: the bound is an edge-finding bound, and the reason holds at entry and passes the formula.
 use mathlib.Core.Path.{_≡_, refl, sym, ap, subst, _∙_}
 use mathlib.Core.Bool.{true, false}
-use mathlib.Core.Logic.{inl, inr}
+use mathlib.Core.Logic.{inl, inr, _↔_}
 use mathlib.Core.List.{List, [], _∷_, _++_}
 use mathlib.Core.Option.{Option, some}
-use Prim.Native.Nat.{ℕ, suc, _+_, _-_, _/_, _≤_, _<_, min}
+use Prim.Native.Nat.{ℕ, _+_, _-_, _/_, _≤_, _<_, min}
 use native.Mathlib.Omega.{arith}
-use native.Mathlib.Decide.{decLt, ℕ-discrete}
 use lib.Dec.{leb}
 use lib.IntN.{ℤ, pos, negsuc, _+ℤ_, subℕ}
 use lib.Signed.{_≤ℤ_, ≤ℤ-refl}
 use lib.ListN.{getD}
-use borrow.Author.Tests.{ne-eqb, eq-eqb, le-leb, lt-leb, lt-ltb, le-ltb}
-use Rattle.scheduling.specs.Scheduling.{whole, natural, Tasks, Proper, TaskSet, _with_, Largest, Least, In, Outside, NonEmpty, Subset, completion, Est, Ect, EdgeFindingBound, RuleFormula}
+use borrow.Author.Tests.{ne-eqb, eq-eqb, lt-leb}
+use Rattle.scheduling.specs.Scheduling.{whole, natural, Tasks, Proper, TaskSet, _with_, In, Outside, Subset, completion, Est, EdgeFindingBound, RuleFormula}
 use Rattle.scheduling.specs.Scheduling as defs
-use Rattle.integers.proofs.Bools.{bool, clash}
+use Rattle.integers.proofs.Bools.{clash}
 use Rattle.scheduling.proofs.Sets.{with-in, with-new, with-old}
 use Rattle.scheduling.proofs.Processing.{processing-mono}
-use Rattle.scheduling.proofs.Scan.{scan, scan-is}
-use Rattle.scheduling.proofs.Levels.{edge}
 use Rattle.scheduling.proofs.Reasons as why
 use Rattle.integers.specs.Moments.{Above}
-use Rattle.integers.proofs.MomentSums.{mono, reflect, reflect<, above-up, plus, same, deep, moment-instant, instant-above}
-use Rattle.integers.proofs.Ints.{ints}
+use Rattle.integers.proofs.MomentSums.{reflect, reflect<, above-up, same, moment-instant, instant-above}
+use Rattle.integers.proofs.Ints.{up, dn, ints, sumℤ, sub-law}
 use Rattle.scheduling.proofs.Clocks.{sound, edge←, Is}
 use Rattle.scheduling.specs.Moments.{moments, ByEarliest, ByCompletion}
 use Rattle.scheduling.proofs.Schedules.{rule-sound}
@@ -35,12 +32,11 @@ use Rattle.runs.specs.Runs.{within, conflict, bounds, propagation}
 use Rattle.runs.specs.Runs as edges
 use Rattle.trees.specs.Leaves as leaves
 use Rattle.trees.specs.Ects.{exceeds}
-use Rattle.trees.proofs.Ects.{one-moment}
 use Rattle.trees.proofs.RootAnswers as tree
 use Rattle.scheduling.specs.Scheduling.{Meets, Every, Admits, negation, HoldsAtEntry, Bounded, PassesWith, PassesAlone}
 use Rattle.runs.specs.Demand.{consequentOf, PostRight, OverloadRight}
 use Rattle.runs.proofs.ReasonWalks as walks
-use Rattle.runs.proofs.ReasonWalks.{Silent, Says, says-then, left-part, right-part, joined}
+use Rattle.scheduling.proofs.Every.{every-append, every-left, every-right}
 use Rattle.runs.proofs.WalkStops as stops
 use Rattle.runs.proofs.LevelSteps.{Measure}
 
@@ -49,30 +45,13 @@ met-of : (s : ℕ → ℤ) (atoms : List Atom) → ((k : ℕ) → Admits atoms k
 met-of s [] h = tt
 met-of s (a ∷ rest) h = (h (a .variable) .0 refl, met-of s rest (λ k. h k .1))
 
-least-of : (atoms : List Atom) (k : ℕ) (u v : ℤ) → u ≤ℤ v → Says atoms k u v → Least whole (Admits atoms k) u
-least-of atoms k u v q s = record { holds = s .tells u (≤ℤ-refl u) q; bounds = λ w h. (s .told w h) .0 }
-
-greatest-of : (atoms : List Atom) (k : ℕ) (u v : ℤ) → u ≤ℤ v → Says atoms k u v → Largest whole (Admits atoms k) v
-greatest-of atoms k u v q s = record { holds = s .tells v q (≤ℤ-refl v); bounds = λ w h. (s .told w h) .1 }
-
--- no greatest value where nothing is said
-unbounded : (atoms : List Atom) (k : ℕ) → Silent atoms k → (v : ℤ) → Largest whole (Admits atoms k) v → ⊥
-unbounded atoms k q v l =
-    let (o, h) = deep (λ _. v) 1 in
-    omega (arith, plus o v 1 (h 0 (omega arith)), mono o (v +ℤ pos 1) v (l .bounds (v +ℤ pos 1) (q (v +ℤ pos 1))))
-
+-- moments as whole numbers: their order, and one step earlier
 at-le : (o a b : ℕ) → a ≤ b → subℕ a o ≤ℤ subℕ b o
-at-le o a b q = reflect o (subℕ a o) (subℕ b o) (instant-above o a) (instant-above o b) (omega (arith, moment-instant o a, moment-instant o b))
+at-le o a b q = omega (ints, sub-law a o, sub-law b o)
 
--- one step earlier
 at-pred : (o b : ℕ) → 1 ≤ b → subℕ b o +ℤ negsuc 0 ≡ subℕ (b - 1) o
-at-pred o b q = elim (decLt b o) [
-  | yes h ↦ (let z : suc ((o - suc b) + 0) ≡ o - suc (b - 1) = omega arith in rw (lt-ltb b o h, lt-ltb (b - 1) o (omega arith)) (ap negsuc z))
-  | no h ↦ elim (decLt (b - o) 1) [
-    | yes g ↦ (let z : 1 - suc (b - o) ≡ o - suc (b - 1) = omega arith in rw (le-ltb b o (omega arith), lt-ltb (b - o) 1 g, lt-ltb (b - 1) o (omega arith)) (ap negsuc z))
-    | no g ↦ (let z : (b - o) - 1 ≡ (b - 1) - o = omega arith in rw (le-ltb b o (omega arith), le-ltb (b - o) 1 (omega arith), le-ltb (b - 1) o (omega arith)) (ap pos z))
-  ]
-]
+unfolding up dn
+at-pred o b q = omega (ints, sumℤ (subℕ b o) (negsuc 0), sub-law b o, sub-law (b - 1) o)
 
 module _ (o : ℕ) (Z : Tasks whole) (okz : Proper Z) (deepz : (k : ℕ) → k < Z .count → Above o (Z .earliest k)) (estOrder lctOrder : List ℕ)
     (rk : ByEarliest (moments o Z) (λ j. getD estOrder j 0) (λ k. index estOrder k)) (ord : ByCompletion (moments o Z) (λ t. getD lctOrder t 0) (λ k. index lctOrder k)) where
@@ -100,17 +79,8 @@ module _ (o : ℕ) (Z : Tasks whole) (okz : Proper Z) (deepz : (k : ℕ) → k <
   abbrev at : ℕ → ℤ
   at m = subℕ m o
 
-  abbrev E : TaskSet → ℕ
-  E Ω = scan J T rank Ω n
-
-  E-is : (Ω : TaskSet) → NonEmpty J Ω → Ect J Ω (E Ω)
-  E-is Ω = scan-is J T rank ok rk Ω
-
   abbrev ectOf : List Leaf → Option ℕ
   ectOf = leaves.ect J estOrder
-
-  abbrev barOf : List Leaf → Option ℕ
-  barOf = leaves.ect-bar J estOrder
 
   abbrev En : ℕ → ℕ
   En t = completion J (L t)
@@ -126,6 +96,32 @@ module _ (o : ℕ) (Z : Tasks whole) (okz : Proper Z) (deepz : (k : ℕ) → k <
   entry-high k g q h z y = let w = reflect o (Z .latest k) (at g) (above-up o (Z .earliest k) (Z .latest k) (okz .ranges k q) (deepz k q)) (instant-above o g) (omega (arith, moment-instant o g)) in
       omega (ints, w, y)
 
+  -- Atoms that say of the tasks of X that they start in the ranges lo to hi, and of no other task anything, leave just these ranges.
+  module _ (atoms : List Atom) (X : TaskSet) (lo hi : ℕ → ℕ) (fits : (k : ℕ) → In J X k → lo k ≤ hi k)
+      (says : (k : ℕ) (z : ℤ) → Admits atoms k z ↔ (In J X k → (at (lo k) ≤ℤ z) × (z ≤ℤ at (hi k)))) where
+    abbrev B : Tasks whole
+    B = record { count = n; earliest = λ k. at (lo k); latest = λ k. at (hi k); duration = Z .duration }
+
+    in-range : (k : ℕ) → In B X k → at (lo k) ≤ℤ at (hi k)
+    in-range k h = at-le o (lo k) (hi k) (fits k (record { small = h .small; mem = h .mem }))
+
+    bounded : Bounded Z atoms X B
+    unfolding up dn
+    bounded = record {
+      same-count = refl;
+      same-duration = λ k. refl;
+      least = λ k h. record {
+        holds = says k (at (lo k)) .1 (λ _. (≤ℤ-refl (at (lo k)), in-range k (record { small = h .small; mem = h .mem })));
+        bounds = λ w a. says k w .0 a (record { small = h .small; mem = h .mem }) .0;
+      };
+      greatest = λ k h. record {
+        holds = says k (at (hi k)) .1 (λ _. (in-range k (record { small = h .small; mem = h .mem }), ≤ℤ-refl (at (hi k))));
+        bounds = λ w a. says k w .0 a (record { small = h .small; mem = h .mem }) .1;
+      };
+      -- no greatest value where nothing is said
+      only = λ k q y u v a l. omega (ints, sumℤ v (pos 1), l .bounds (v +ℤ pos 1) (says k (v +ℤ pos 1) .1 (λ h. clash (h .mem) y)));
+    }
+
   module _ (t : ℕ) (ls : List Leaf) (Λ : TaskSet) where
     abbrev Θ : TaskSet
     Θ k = leb t (place k)
@@ -137,20 +133,11 @@ module _ (o : ℕ) (Z : Tasks whole) (okz : Proper Z) (deepz : (k : ℕ) → k <
       abbrev dr : ℕ → ℕ
       dr = walks.dr o J ok estOrder lctOrder rk ls Θ Λ s
 
-      abbrev Out : ℕ → ℕ → Type 0
-      Out = walks.Out o J ok estOrder lctOrder rk ls Θ Λ s
-
       on-in : (a k : ℕ) → onward a k ≡ true → (a ≤ rank k) × (Θ k ≡ true)
       on-in = walks.onward-in o J ok estOrder lctOrder rk ls Θ Λ s
 
       on-out : (a k : ℕ) → a ≤ rank k → Θ k ≡ true → onward a k ≡ true
       on-out = walks.onward-out o J ok estOrder lctOrder rk ls Θ Λ s
-
-      last-Θ : In J Θ (L t)
-      last-Θ = record { small = ord .task t small; mem = le-leb t (place (L t)) (omega (arith, ord .back t small)) }
-
-      ect-is : ectOf ls ≡ some (E Θ)
-      ect-is = tree.moment-some J ok estOrder rk ls Θ Λ s (L t) last-Θ
 
       -- in the order of earliest starts
       after : (a k : ℕ) → k < n → a ≤ rank k → ea a ≤ J .earliest k
@@ -162,14 +149,9 @@ module _ (o : ℕ) (Z : Tasks whole) (okz : Proper Z) (deepz : (k : ℕ) → k <
         bounds = λ w h. omega (arith, h .2, after a (h .0) (h .1 .small) ((on-in a (h .0) (h .1 .mem)) .0));
       }
 
-      -- k is not among the white from a on
-      out-of : (a k : ℕ) → (k < n → onward a k ≡ false) → Out a k
-      out-of a k h x q r y z = elim (decLt k n)
-          [ yes u ↦ clash (on-out a k (omega (arith, ap rank z, rk .back x r)) (rw z at y)) (h u) | no u ↦ omega (arith, ap (λ (j : ℕ). j) z, rk .task x r) ]
-
       -- a post -----------------------------------------------------------------------------------------------------------------
-      module _ (x : ℕ) (f : tree.Found J ok estOrder rk ls Θ Λ s x) (late : place (T x) < t) (over : exceeds (barOf ls) (En t) ≡ true) (b : ℕ) (is : ectOf ls ≡ some b)
-          (up : J .earliest (T x) < b) where
+      module _ (x : ℕ) (f : tree.Found J ok estOrder rk ls Θ Λ s x) (late : place (T x) < t) (over : exceeds (leaves.ect-bar J estOrder ls) (En t) ≡ true) (b : ℕ) (is : ectOf ls ≡ some b)
+          (up : J .earliest (T x) < b) (edge : EdgeFindingBound J (T x) b) where
         abbrev i : ℕ
         i = T x
 
@@ -185,14 +167,8 @@ module _ (o : ℕ) (Z : Tasks whole) (okz : Proper Z) (deepz : (k : ℕ) → k <
         i-out : Θ i ≡ false
         i-out = lt-leb t (place i) late
 
-        hit : c < E (Θ with i)
-        hit = omega (arith, tree.past-found J ok estOrder rk ls Θ Λ s f c over, E-is (Θ with i) (i, record { small = i-small; mem = with-new Θ i }) .bounds (f .value) (f .attains))
-
-        edge-ℕ : EdgeFindingBound J i b
-        edge-ℕ = subst (EdgeFindingBound J i) (one-moment ect-is is) (edge J ok E E-is L place ord t i i-small late small hit)
-
         edge-ℤ : EdgeFindingBound Z i (at b)
-        edge-ℤ = let e : Is o Z okz deepz (EdgeFindingBound Z i) b = edge← o Z okz deepz i b edge-ℕ in
+        edge-ℤ = let e : Is o Z okz deepz (EdgeFindingBound Z i) b = edge← o Z okz deepz i b edge in
             subst (EdgeFindingBound Z i) (same o (e .at) (at b) (e .above) (instant-above o b) (e .is ∙ sym (moment-instant o b))) (e .holds)
 
         -- the first walk
@@ -208,11 +184,15 @@ module _ (o : ℕ) (Z : Tasks whole) (okz : Proper Z) (deepz : (k : ℕ) → k <
         abbrev last : ℕ
         last = r + dr m + J .duration i - 1
 
+        abbrev Whites : List ℕ
+        Whites = thetaOf (whiteAt ls) (taskAt J estOrder) m (one .left)
+
+        abbrev Pre : List Atom
+        Pre = bounds o J b r last (dr m) Whites
+
         -- the second
-        two : walks.Second o J ok estOrder lctOrder rk ls Θ Λ s b r last m (bounds o J b r last (dr m) (thetaOf (whiteAt ls) (taskAt J estOrder) m (one .left)))
-        two =
-            let w = stops.attaining-after o J ok estOrder lctOrder rk ord t ls Λ s small x f over b is up in
-            walks.second-stops o J ok estOrder lctOrder rk ls Θ Λ s b r last (one .left) m (dr m) (w .at) (one .all) refl (w .after) (w .inside) (w .white) (w .attains)
+        abbrev two : walks.Second o J ok estOrder lctOrder rk ls Θ Λ s b r last (one .left) m
+        two = stops.second-walk o J ok estOrder lctOrder rk ord t ls Λ s small x f over b is up r last
 
         abbrev m′ : ℕ
         m′ = two .m
@@ -245,13 +225,7 @@ module _ (o : ℕ) (Z : Tasks whole) (okz : Proper Z) (deepz : (k : ℕ) → k <
         est′ = onward-est m′ (two .small) (two .mem)
 
         abbrev G : Tasks natural
-        G = why.Given J ok Ω Ω′ i r (ea m′) b c out sub est′ (two .attains) low low-i by-c past
-
-        abbrev B : Tasks whole
-        B = record { count = n; earliest = λ k. at (G .earliest k); latest = λ k. at (G .latest k); duration = Z .duration }
-
-        abbrev Pre : List Atom
-        Pre = bounds o J b r last (dr m) (thetaOf (whiteAt ls) (taskAt J estOrder) m (one .left))
+        G = why.Given J ok Ω Ω′ i r (ea m′) b c out sub est′ (two .over) low low-i by-c past
 
         abbrev Mine : List Atom
         Mine = edges.atLeast o J i r ∷ []
@@ -263,10 +237,10 @@ module _ (o : ℕ) (Z : Tasks whole) (okz : Proper Z) (deepz : (k : ℕ) → k <
         Full = (Pre ++ Mine) ++ Not
 
         G-low : (k : ℕ) → In J Ω k → G .earliest k ≤ J .earliest k
-        G-low = why.holds-low J ok Ω Ω′ i r (ea m′) b c out sub est′ (two .attains) low low-i by-c past
+        G-low = why.holds-low J ok Ω Ω′ i r (ea m′) b c out sub est′ (two .over) low low-i by-c past
 
         G-high : (k : ℕ) → In J Ω k → J .latest k ≤ G .latest k
-        G-high = why.holds-high J ok Ω Ω′ i r (ea m′) b c out sub est′ (two .attains) low low-i by-c past
+        G-high = why.holds-high J ok Ω Ω′ i r (ea m′) b c out sub est′ (two .over) low low-i by-c past
 
         G-i : G .earliest i ≡ r
         G-i = rw (walks.onward-not o J ok estOrder lctOrder rk ls Θ Λ s m′ i i-out)
@@ -277,87 +251,55 @@ module _ (o : ℕ) (Z : Tasks whole) (okz : Proper Z) (deepz : (k : ℕ) → k <
         G-late : (k : ℕ) → (k ≡ i → ⊥) → G .latest k ≡ last - J .duration k
         G-late k ne = let z : (r + (dr m + J .duration i)) - 1 ≡ last = omega arith in rw (ne-eqb k i ne, z)
 
-        not-i : (k : ℕ) → In J Ω k → i ≡ k → ⊥
-        not-i k h z = clash ((on-in m k (h .mem)) .1) (rw z at i-out)
+        pre-says : (k : ℕ) (z : ℤ) → Admits Pre k z ↔ (In J Ω k → (at (G .earliest k) ≤ℤ z) × (z ≤ℤ at (last - J .duration k)))
+        pre-says k z = rw (two .is) (walks.listed-says o J ok estOrder lctOrder rk ls Θ Λ s m (one .left) (one .all) (G .earliest) (λ k. last - J .duration k) k z)
 
-        silent-atom : (a : Atom) (k : ℕ) → (a .variable ≡ k → ⊥) → Silent (a ∷ []) k
-        silent-atom a k ne z = (λ e. absurd (ne e), tt)
+        late-Ω : (k : ℕ) → In J Ω k → G .latest k ≡ last - J .duration k
+        late-Ω k h = G-late k (λ e. clash (h .mem) (subst (λ (j : ℕ). Ω j ≡ false) (sym e) (out .mem)))
 
-        of-Ω : (k : ℕ) → In J Ω k → Says Full k (at (G .earliest k)) (at (G .latest k))
-        of-Ω k h = let u = on-in m k (h .mem) in
-            says-then (Pre ++ Mine) Not k (at (G .earliest k)) (at (G .latest k))
-            (says-then Pre Mine k (at (G .earliest k)) (at (G .latest k))
-            (subst (λ (g : ℕ). Says Pre k (at (G .earliest k)) (at g)) (sym (G-late k (λ z. not-i k h (sym z)))) (two .says k (h .small) (u .1) (u .0)))
-            (silent-atom (edges.atLeast o J i r) k (not-i k h)))
-            (silent-atom (negation (consequentOf (record { task = i; bound = at b; reason = As }))) k (not-i k h))
-
-        pre-i : Silent Pre i
-        pre-i = two .silent i (out-of m i (λ _. out .mem))
-
-        of-i : Says Full i (at (G .earliest i)) (at (G .latest i))
-        of-i = rw (G-i, G-i′) (record {
-          told = λ z a. (
-            (right-part Pre Mine i z (left-part (Pre ++ Mine) Not i z a)) .0 refl,
-            subst (λ (v : ℤ). z ≤ℤ v) (at-pred o b (omega (arith, up))) ((right-part (Pre ++ Mine) Not i z a) .0 refl),
-          );
-          tells = λ z p q. joined (Pre ++ Mine) Not i z (joined Pre Mine i z (pre-i z) (λ _. p, tt)) (λ _. subst (λ (v : ℤ). z ≤ℤ v) (sym (at-pred o b (omega (arith, up)))) q, tt);
-        })
-
-        of-X : (k : ℕ) → In J (Ω with i) k → Says Full k (at (G .earliest k)) (at (G .latest k))
-        of-X k h = elim (with-in Ω i k (h .mem)) [ inl z ↦ subst (λ (k : ℕ). Says Full k (at (G .earliest k)) (at (G .latest k))) (sym z) of-i | inr y ↦ of-Ω k (record { small = h .small; mem = y }) ]
+        says : (k : ℕ) (z : ℤ) → Admits Full k z ↔ (In J (Ω with i) k → (at (G .earliest k) ≤ℤ z) × (z ≤ℤ at (G .latest k)))
+        says k z = (
+          λ a h. elim (with-in Ω i k (h .mem)) [
+            | inl e ↦ rw (e, G-i, G-i′) (every-right _ Pre Mine (every-left _ (Pre ++ Mine) Not a) .0 (sym e), rw (at-pred o b (omega (arith, up))) at (every-right _ (Pre ++ Mine) Not a .0 (sym e)))
+            | inr y ↦ (let w : In J Ω k = record { small = h .small; mem = y } in rw (late-Ω k w) (pre-says k z .0 (every-left _ Pre Mine (every-left _ (Pre ++ Mine) Not a)) w))
+          ],
+          λ f. every-append _ (Pre ++ Mine) Not
+              (every-append _ Pre Mine (pre-says k z .1 (λ h. rw (late-Ω k h) at (f (record { small = h .small; mem = with-old Ω i k (h .mem) })))) (λ e. here f e .0, tt))
+              (λ e. here f e .1, tt),
+        )
+          where
+            here : (In J (Ω with i) k → (at (G .earliest k) ≤ℤ z) × (z ≤ℤ at (G .latest k))) → i ≡ k → (at r ≤ℤ z) × (z ≤ℤ (at b +ℤ negsuc 0))
+            here f e =
+                let self : In J (Ω with i) i = record { small = i-small; mem = with-new Ω i } in
+                let g = subst (λ (j : ℕ). (at (G .earliest j) ≤ℤ z) × (z ≤ℤ at (G .latest j))) (sym e) (f (subst (In J (Ω with i)) e self)) in
+                rw (at-pred o b (omega (arith, up))) (rw (G-i, G-i′) at g)
 
         range : (k : ℕ) → In J (Ω with i) k → G .earliest k ≤ G .latest k
         range k h = elim (with-in Ω i k (h .mem)) [
-          | inl z ↦ subst (λ (k : ℕ). G .earliest k ≤ G .latest k) (sym z) (omega (arith, G-i, G-i′, up, low-i))
+          | inl z ↦ rw z (omega (arith, G-i, G-i′, up, low-i))
           | inr y ↦ (let w : In J Ω k = record { small = h .small; mem = y } in omega (arith, G-low k w, G-high k w, ok .ranges k (h .small)))
         ]
 
-        of-none : (k : ℕ) → (i ≡ k → ⊥) → (k < n → Ω k ≡ false) → Silent Full k
-        of-none k ne h z = joined (Pre ++ Mine) Not k z (joined Pre Mine k z (two .silent k (out-of m k h) z) (silent-atom (edges.atLeast o J i r) k ne z))
-            (silent-atom (negation (consequentOf (record { task = i; bound = at b; reason = As }))) k ne z)
-
-        up′ : {k : ℕ} {X : TaskSet} → In Z X k → In J X k
-        up′ h = record { small = h .small; mem = h .mem }
-
-        ranges : Bounded Z Full (Ω with i) B
-        ranges = record {
-          same-count = refl;
-          same-duration = λ k. refl;
-          least = λ k h. least-of Full k (at (G .earliest k)) (at (G .latest k)) (at-le o (G .earliest k) (G .latest k) (range k (up′ h))) (of-X k (up′ h));
-          greatest = λ k h. greatest-of Full k (at (G .earliest k)) (at (G .latest k)) (at-le o (G .earliest k) (G .latest k) (range k (up′ h))) (of-X k (up′ h));
-          only = λ k q y u v a l. unbounded Full k
-              (of-none k (λ z. clash (subst (λ (j : ℕ). (Ω with i) j ≡ true) z (with-new Ω i)) y) (λ _. elim (bool (Ω k)) [ inl w ↦ clash (with-old Ω i k w) y | inr w ↦ w ])) v l;
-        }
-
         passes-ℕ : RuleFormula G Ω i
-        passes-ℕ = why.passes J ok Ω Ω′ i r (ea m′) b c out sub est′ (two .attains) low low-i by-c past
+        passes-ℕ = why.passes J ok Ω Ω′ i r (ea m′) b c out sub est′ (two .over) low low-i by-c past
 
         passes : PassesWith Z (Pre ++ Mine) (consequentOf (record { task = i; bound = at b; reason = As }))
         passes = record {
-          ranges = B;
+          ranges = B Full (Ω with i) (G .earliest) (G .latest) range says;
           set = Ω;
-          bounded = ranges;
-          formula = checks-down o B (okz .lasts) (Ω with i) (G .earliest) (G .latest) (λ k h. instant-above o (G .earliest k))
-              (λ k h. at-le o (G .earliest k) (G .latest k) (range k (record { small = h .small; mem = h .mem }))) (λ k h. moment-instant o (G .earliest k)) (λ k h. moment-instant o (G .latest k))
+          bounded = bounded Full (Ω with i) (G .earliest) (G .latest) range says;
+          formula = checks-down o (B Full (Ω with i) (G .earliest) (G .latest) range says) (okz .lasts) (Ω with i) (G .earliest) (G .latest) (λ k h. instant-above o (G .earliest k))
+              (in-range Full (Ω with i) (G .earliest) (G .latest) range says) (λ k h. moment-instant o (G .earliest k)) (λ k h. moment-instant o (G .latest k))
               Ω (λ k h. with-old Ω i k (h .mem)) i (with-new Ω i) passes-ℕ;
         }
 
         at-entry : HoldsAtEntry Z (Pre ++ Mine)
-        at-entry st h = met-of st (Pre ++ Mine) each
-          where
-            each : (k : ℕ) → Admits (Pre ++ Mine) k (st k)
-            each k = elim (ℕ-discrete i k) [
-              | yes z ↦ subst (λ (k : ℕ). Admits (Pre ++ Mine) k (st k)) z (joined Pre Mine i (st i) (pre-i (st i)) (λ _. entry-low i r i-small low-i (st i) (h i i-small .0), tt))
-              | no z ↦ elim (decLt k n) [
-                | no q ↦ left-part (Pre ++ Mine) Not k (st k) (of-none k z (λ q′. absurd (q q′)) (st k))
-                | yes q ↦ elim (bool (Ω k)) [
-                  | inr y ↦ left-part (Pre ++ Mine) Not k (st k) (of-none k z (λ _. y) (st k))
-                  | inl y ↦ (let w : In J Ω k = record { small = q; mem = y } in
-                      left-part (Pre ++ Mine) Not k (st k) (of-Ω k w .tells (st k) (entry-low k (G .earliest k) q (G-low k w) (st k) (h k q .0))
-                      (entry-high k (G .latest k) q (G-high k w) (st k) (h k q .1))))
-                ]
-              ]
-            ]
+        at-entry st h = met-of st (Pre ++ Mine) (λ k. every-append _ Pre Mine
+            (pre-says k (st k) .1 (λ w. (
+              entry-low k (G .earliest k) (w .small) (G-low k w) (st k) (h k (w .small) .0),
+              entry-high k (last - J .duration k) (w .small) (omega (arith, G-high k w, late-Ω k w)) (st k) (h k (w .small) .1),
+            )))
+            (λ e. subst (λ (k : ℕ). at r ≤ℤ st k) e (entry-low i r i-small low-i (st i) (h i i-small .0)), tt))
 
         post-right : PostRight Z (record { task = i; bound = at b; reason = As })
         post-right = record {
@@ -413,9 +355,6 @@ module _ (o : ℕ) (Z : Tasks whole) (okz : Proper Z) (deepz : (k : ℕ) → k <
         abbrev S : Tasks natural
         S = why.Span J ok O (ea q) d left right (T q, q-in) low-O ends-O slack roomy
 
-        abbrev D : Tasks whole
-        D = record { count = n; earliest = λ k. at (S .earliest k); latest = λ k. at (S .latest k); duration = Z .duration }
-
         abbrev In-O : List Atom
         In-O = within o J (ea q - left) (d + right) (thetaOf (whiteAt ls) (taskAt J estOrder) q (stopped .left))
 
@@ -425,49 +364,34 @@ module _ (o : ℕ) (Z : Tasks whole) (okz : Proper Z) (deepz : (k : ℕ) → k <
         S-high : (k : ℕ) → In J O k → J .latest k ≤ S .latest k
         S-high = why.span-high J ok O (ea q) d left right (T q, q-in) low-O ends-O slack roomy
 
-        of-O : (k : ℕ) → In J O k → Says In-O k (at (S .earliest k)) (at (S .latest k))
-        of-O k h = let u = on-in q k (h .mem) in walks.within-says o J ok estOrder lctOrder rk ls Θ Λ s (ea q - left) (d + right) (stopped .left) q k (stopped .all) (h .small) (u .1) (u .0)
-
-        of-no : (k : ℕ) → (k < n → O k ≡ false) → Silent In-O k
-        of-no k h = walks.within-silent o J ok estOrder lctOrder rk ls Θ Λ s (ea q - left) (d + right) (stopped .left) q k (stopped .all) (out-of q k h)
+        says-O : (k : ℕ) (z : ℤ) → Admits In-O k z ↔ (In J O k → (at (S .earliest k) ≤ℤ z) × (z ≤ℤ at (S .latest k)))
+        says-O k z = rw (walks.within-between o J (S .earliest) (S .latest) (ea q - left) (d + right) (thetaOf (whiteAt ls) (taskAt J estOrder) q (stopped .left)) (λ k h. (refl, refl)))
+            (walks.listed-says o J ok estOrder lctOrder rk ls Θ Λ s q (stopped .left) (stopped .all) (S .earliest) (S .latest) k z)
 
         range-O : (k : ℕ) → In J O k → S .earliest k ≤ S .latest k
         range-O k w = omega (arith, S-low k w, S-high k w, ok .ranges k (w .small))
 
-        to-J : {k : ℕ} → In Z O k → In J O k
-        to-J h = record { small = h .small; mem = h .mem }
-
         alone : PassesAlone Z In-O
         alone = record {
-          ranges = D;
+          ranges = B In-O O (S .earliest) (S .latest) range-O says-O;
           set = O;
-          bounded = record {
-            same-count = refl;
-            same-duration = λ k. refl;
-            least = λ k h. least-of In-O k (at (S .earliest k)) (at (S .latest k)) (at-le o (S .earliest k) (S .latest k) (range-O k (to-J h))) (of-O k (to-J h));
-            greatest = λ k h. greatest-of In-O k (at (S .earliest k)) (at (S .latest k)) (at-le o (S .earliest k) (S .latest k) (range-O k (to-J h))) (of-O k (to-J h));
-            only = λ k r y u v a l. unbounded In-O k (of-no k (λ _. y)) v l;
-          };
-          formula = overloads-down o D (okz .lasts) O (S .earliest) (S .latest) (λ k h. instant-above o (S .earliest k))
-              (λ k h. at-le o (S .earliest k) (S .latest k) (range-O k (record { small = h .small; mem = h .mem }))) (λ k h. moment-instant o (S .earliest k)) (λ k h. moment-instant o (S .latest k))
+          bounded = bounded In-O O (S .earliest) (S .latest) range-O says-O;
+          formula = overloads-down o (B In-O O (S .earliest) (S .latest) range-O says-O) (okz .lasts) O (S .earliest) (S .latest) (λ k h. instant-above o (S .earliest k))
+              (in-range In-O O (S .earliest) (S .latest) range-O says-O) (λ k h. moment-instant o (S .earliest k)) (λ k h. moment-instant o (S .latest k))
               O (λ k h. h .mem) (why.span-overloads J ok O (ea q) d left right (T q, q-in) low-O ends-O slack roomy);
         }
 
         entry-O : HoldsAtEntry Z In-O
-        entry-O st h = met-of st In-O each
-          where
-            each : (k : ℕ) → Admits In-O k (st k)
-            each k = elim (decLt k n) [
-              | no u ↦ of-no k (λ u′. absurd (u u′)) (st k)
-              | yes u ↦ elim (bool (O k)) [
-                | inr y ↦ of-no k (λ _. y) (st k)
-                | inl y ↦ (let w : In J O k = record { small = u; mem = y } in
-                    of-O k w .tells (st k) (entry-low k (S .earliest k) u (S-low k w) (st k) (h k u .0)) (entry-high k (S .latest k) u (S-high k w) (st k) (h k u .1)))
-              ]
-            ]
+        entry-O st h = met-of st In-O (λ k. says-O k (st k) .1 (λ w. (
+          entry-low k (S .earliest k) (w .small) (S-low k w) (st k) (h k (w .small) .0),
+          entry-high k (S .latest k) (w .small) (S-high k w) (st k) (h k (w .small) .1),
+        )))
 
         overload-right : OverloadRight Z Os
         overload-right = record { reason-holds = subst (HoldsAtEntry Z) (sym (stopped .is)) entry-O; reason-passes = subst (PassesAlone Z) (sym (stopped .is)) alone }
 
   pub all-right : ((k : ℕ) → k < n → defs.processing J (λ _. true) ≤ J .earliest k) → Measure o J ok estOrder lctOrder rk ord (PostRight Z) (OverloadRight Z)
-  all-right room = record { of-post = λ t ls Λ s x b small f late over is up. post-right t ls Λ s small x f late over b is up; of-end = λ t ls Λ s small over. overload-right t ls Λ s small room over }
+  all-right room = record {
+    of-post = λ t ls Λ s x b small f late over is up edge. post-right t ls Λ s small x f late over b is up edge;
+    of-end = λ t ls Λ s small over wrong. overload-right t ls Λ s small room over;
+  }

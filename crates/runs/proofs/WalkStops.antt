@@ -1,14 +1,14 @@
 -- Where the walks of the reasons stop, at a level of a run: inside Θ.
 use mathlib.Core.Path.{_≡_, sym, ap, subst, _∙_}
-use mathlib.Core.Bool.{Bool, true, false}
+use mathlib.Core.Bool.{Bool, true}
 use mathlib.Core.List.{List, _∷_, _++_}
-use mathlib.Core.Logic.{_⊎_, inl, inr}
+use mathlib.Core.Logic.{inl, inr}
 use mathlib.Core.Option.{some}
 use Prim.Native.Nat.{ℕ, zero, suc, _+_, _-_, _≤_, _<_}
 use native.Mathlib.Omega.{arith}
 use lib.Dec.{leb}
 use lib.ListN.{length, getD, drop}
-use lib.Seq.{drop-append-add}
+use lib.Seq.{drop-append-seam}
 use borrow.Author.Tests.{leb-true}
 use Rattle.integers.specs.Orders.{index}
 use Rattle.integers.proofs.Bools.{bool}
@@ -29,25 +29,15 @@ use Rattle.runs.proofs.ReasonWalks as walks
 pub theta-append : (white : ℕ → Bool) (task : ℕ → ℕ) (a d e : ℕ) → thetaOf white task a (d + e) ≡ thetaOf white task a d ++ thetaOf white task (a + d) e
 theta-append white task a zero e =
     let z : 0 + e ≡ e = omega arith in
-    let y : a ≡ a + 0 = omega arith in
-    ap (thetaOf white task a) z ∙ ap (λ (b : ℕ). thetaOf white task b e) y ∙ ap (λ (l : List ℕ). l ++ thetaOf white task (a + 0) e) (sym (theta-none white task a))
-theta-append white task a (suc d) e = by (theta-append white task (suc a) d e) (bool (white a))
-  where
-    z : suc d + e ≡ suc (d + e)
-    z = omega arith
-
-    y : suc a + d ≡ a + suc d
-    y = omega arith
-
-    by : thetaOf white task (suc a) (d + e) ≡ thetaOf white task (suc a) d ++ thetaOf white task (suc a + d) e → (white a ≡ true) ⊎ (white a ≡ false)
-        → thetaOf white task a (suc d + e) ≡ thetaOf white task a (suc d) ++ thetaOf white task (a + suc d) e
-    by ih (inl w) = ap (thetaOf white task a) z ∙ theta-white white task a (d + e) w ∙ ap (λ (l : List ℕ). task a ∷ l) (ih ∙ ap (λ (b : ℕ). thetaOf white task (suc a) d ++ thetaOf white task b e) y)
-        ∙ ap (λ (l : List ℕ). l ++ thetaOf white task (a + suc d) e) (sym (theta-white white task a d w))
-    by ih (inr w) = ap (thetaOf white task a) z ∙ theta-skip white task a (d + e) w ∙ ih ∙ ap (λ (b : ℕ). thetaOf white task (suc a) d ++ thetaOf white task b e) y
-        ∙ ap (λ (l : List ℕ). l ++ thetaOf white task (a + suc d) e) (sym (theta-skip white task a d w))
-
-drop-all : (xs ys : List ℕ) → drop (length xs) (xs ++ ys) ≡ ys
-drop-all xs ys = let z : length xs ≡ length xs + 0 = omega arith in ap (λ (k : ℕ). drop k (xs ++ ys)) z ∙ drop-append-add xs ys 0
+    let y : a + 0 ≡ a = omega arith in
+    rw (z, y, theta-none white task a)
+theta-append white task a (suc d) e =
+    let z : suc d + e ≡ suc (d + e) = omega arith in
+    let y : a + suc d ≡ suc a + d = omega arith in
+    elim (bool (white a)) [
+      | inl w ↦ rw (z, y, theta-white white task a (d + e) w, theta-white white task a d w) (ap (λ (l : List ℕ). task a ∷ l) (theta-append white task (suc a) d e))
+      | inr w ↦ rw (z, y, theta-skip white task a (d + e) w, theta-skip white task a d w) (theta-append white task (suc a) d e)
+    ]
 
 module _ (o : ℕ) (J : Tasks natural) (ok : Proper J) (estOrder lctOrder : List ℕ) (rk : ByEarliest J (λ j. getD estOrder j 0) (λ k. index estOrder k))
     (ord : ByCompletion J (λ t. getD lctOrder t 0) (λ k. index lctOrder k))
@@ -98,14 +88,10 @@ module _ (o : ℕ) (J : Tasks natural) (ok : Proper J) (estOrder lctOrder : List
     unfolding spot
     from-spot x q =
         let z : n ≡ x + (n - x) = omega arith in
-        ap (drop (spot x)) (theta-is J estOrder ls)
-        ∙ ap (λ (d : ℕ). drop (spot x) (thetaOf (whiteAt ls) (taskAt J estOrder) 0 d)) z
-        ∙ ap (drop (spot x)) (theta-append (whiteAt ls) (taskAt J estOrder) 0 x (n - x))
-        ∙ drop-all (thetaOf (whiteAt ls) (taskAt J estOrder) 0 x) (thetaOf (whiteAt ls) (taskAt J estOrder) (0 + x) (n - x))
-        ∙ ap (λ (a : ℕ). thetaOf (whiteAt ls) (taskAt J estOrder) a (n - x)) (the x)
-      where
-        the : (x : ℕ) → 0 + x ≡ x
-        the x = omega arith
+        let y : 0 + x ≡ x = omega arith in
+        ap (drop (spot x)) (theta-is J estOrder ls ∙ ap (thetaOf (whiteAt ls) (taskAt J estOrder) 0) z ∙ theta-append (whiteAt ls) (taskAt J estOrder) 0 x (n - x))
+        ∙ drop-append-seam (thetaOf (whiteAt ls) (taskAt J estOrder) 0 x) (thetaOf (whiteAt ls) (taskAt J estOrder) (0 + x) (n - x))
+        ∙ ap (λ (a : ℕ). thetaOf (whiteAt ls) (taskAt J estOrder) a (n - x)) y
 
     pub spot-up : (x y : ℕ) → x ≤ y → spot x ≤ spot y
     unfolding spot
@@ -160,3 +146,10 @@ module _ (o : ℕ) (J : Tasks natural) (ok : Proper J) (estOrder lctOrder : List
             attains = omega (arith, h, ap (J .earliest) (rk .there j (jm .small)));
             after = omega (arith, q, rk .back m (first-walk .small));
           }
+
+      -- and so does the second, which leaves bounds of the tasks from there on
+      pub second-walk : (r last : ℕ)
+          → walks.Second o J ok estOrder lctOrder rk ls Θ Λ s b r last (first-walk .left) (first-walk .m)
+      second-walk r last =
+          let w = attaining-after in
+          walks.second-stops o J ok estOrder lctOrder rk ls Θ Λ s b r last (first-walk .left) (first-walk .m) (w .at) (first-walk .all) (w .after) (w .inside) (w .white) (w .attains)

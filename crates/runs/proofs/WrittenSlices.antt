@@ -1,12 +1,12 @@
 -- One more post or reason, written after those in a lent slice, makes it the slice of all of them.
 use mathlib.Core.Path.{_≡_, refl, sym, ap, _∙_}
 use mathlib.Core.List.{List, [], _∷_, _++_, append-assoc, append-nil}
-use Prim.Native.Nat.{ℕ, zero, suc, _+_, _*_, _≤_, _<_}
+use Prim.Native.Nat.{ℕ, suc, _+_, _*_, _≤_, _<_}
 use native.Mathlib.Omega.{arith}
 use native.Mathlib.Nat.{add-zero}
 use lib.IntN.{ℤ, pos}
-use lib.ListN.{length, getD, take, length-append}
-use lib.Seq.{sets}
+use lib.ListN.{length, getD, take, drop, length-append, take-append-drop}
+use lib.Seq.{sets, take-suc}
 use Rattle.scheduling.specs.Scheduling.{Atom}
 use Rattle.scheduling.proofs.Words.{atoms-none, atoms-stored}
 use Rattle.runs.specs.Traces.{Post}
@@ -15,10 +15,14 @@ use Rattle.runs.specs.Demand.{no-post}
 use Rattle.runs.specs.Words.{postWords, reasons}
 use Rattle.integers.proofs.Words.{sets-append}
 
+pub reasons-append : (xs ys : List Post) → reasons (xs ++ ys) ≡ reasons xs ++ reasons ys
+unfolding reasons
+reasons-append [] ys = refl
+reasons-append (x ∷ xs) ys = ap (λ (l : List Atom). x .reason ++ l) (reasons-append xs ys) ∙ sym (append-assoc (x .reason) (reasons xs) (reasons ys))
+
 pub reasons-more : (ps : List Post) (p : Post) → reasons (ps ++ (p ∷ [])) ≡ reasons ps ++ p .reason
 unfolding reasons
-reasons-more [] p = append-nil (p .reason)
-reasons-more (q ∷ ps) p = ap (λ (l : List Atom). q .reason ++ l) (reasons-more ps p) ∙ sym (append-assoc (q .reason) (reasons ps) (p .reason))
+reasons-more ps p = reasons-append ps (p ∷ []) ∙ ap (λ (l : List Atom). reasons ps ++ l) (append-nil (p .reason))
 
 abbrev pub fourOf : ℕ → Post → List ℤ
 fourOf from p = pos (p .task) ∷ p .bound ∷ pos from ∷ pos (length (p .reason)) ∷ []
@@ -63,13 +67,17 @@ no-reasons = refl
 
 -- the reasons of the first posts
 pub reasons-suc : (ps : List Post) (j : ℕ) → j < length ps → length (reasons (take (suc j) ps)) ≡ length (reasons (take j ps)) + length (getD ps j no-post .reason)
-unfolding reasons
-reasons-suc [] j h = absurd (omega arith)
-reasons-suc (p ∷ ps) zero h = omega (arith, length-append (p .reason) [])
-reasons-suc (p ∷ ps) (suc j) h = omega (arith, length-append (p .reason) (reasons (take (suc j) ps)), length-append (p .reason) (reasons (take j ps)), reasons-suc ps j (omega arith))
+reasons-suc ps j h = omega (
+  arith,
+  ap (λ (l : List Post). length (reasons l)) (take-suc ps j no-post h),
+  ap length (reasons-more (take j ps) (getD ps j no-post)),
+  length-append (reasons (take j ps)) (getD ps j no-post .reason),
+)
 
 pub reasons-most : (ps : List Post) (j : ℕ) → length (reasons (take j ps)) ≤ length (reasons ps)
-unfolding reasons
-reasons-most ps zero = omega arith
-reasons-most [] (suc j) = omega arith
-reasons-most (p ∷ ps) (suc j) = omega (arith, length-append (p .reason) (reasons (take j ps)), length-append (p .reason) (reasons ps), reasons-most ps j)
+reasons-most ps j = omega (
+  arith,
+  ap (λ (l : List Post). length (reasons l)) (take-append-drop j ps),
+  ap length (reasons-append (take j ps) (drop j ps)),
+  length-append (reasons (take j ps)) (reasons (drop j ps)),
+)

@@ -2,7 +2,7 @@
 use mathlib.Core.Path.{_≡_, sym, ap, subst, _∙_}
 use mathlib.Core.Bool.{Bool, true, cond}
 use Prim.Native.Nat.{ℕ, _+_, _<_}
-use Rattle.scheduling.specs.Scheduling.{Clock, Tasks, TaskSet, total, _with_, In, Subset, completion, Est, Lct, processing, EstPlusP, Ect, Overloads, RuleFormula}
+use Rattle.scheduling.specs.Scheduling.{Clock, Tasks, TaskSet, total, In, Subset, completion, Est, Lct, processing, EstPlusP, Ect, Overloads, RuleFormula}
 use Rattle.scheduling.proofs.Sets.{total-ext}
 
 -- The same count and durations, and on X the same ranges.

@@ -1,14 +1,14 @@
 -- Each definition means the same over whole numbers and over their moments.
 use mathlib.Core.Path.{_≡_, refl, sym, ap, subst, _∙_}
 use mathlib.Core.Logic.{_⊎_, inl, inr}
-use Prim.Native.Nat.{ℕ, _+_, _-_, _≤_, _<_}
+use Prim.Native.Nat.{ℕ, _+_, _≤_, _<_}
 use native.Mathlib.Omega.{arith}
 use lib.IntN.{ℤ, pos, _+ℤ_}
-use lib.Signed.{_≤ℤ_}
+use lib.Signed.{_≤ℤ_, _<ℤ_}
 use Rattle.integers.specs.Moments.{moment, Above}
 use Rattle.integers.proofs.MomentSums.{mono, reflect, mono<, reflect<, above-up, plus, plus-above, same}
 use Rattle.scheduling.specs.Scheduling.{whole, natural, Tasks, Proper, TaskSet, _with_, In, completion, Est, Lct, processing, EstPlusP, Ect, Overloads, EdgeFindingBound, Schedule, Done}
-use Rattle.scheduling.specs.Scheduling.{Conflict, RuleFormula}
+use Rattle.scheduling.specs.Scheduling.{Least, Largest, Conflict, RuleFormula}
 use Rattle.scheduling.specs.Moments.{moments}
 use Rattle.scheduling.proofs.Processing.{processing-moments}
 
@@ -39,64 +39,66 @@ module _ (o : ℕ) where
       pub is : moment o at ≡ m
       pub holds : P at
 
-    est→ : (Ω : TaskSet) (v : ℤ) → Est J Ω v → Est N Ω (moment o v)
-    est→ Ω v e = record {
-      holds = (e .holds .0, in→ (e .holds .1), ap (moment o) (e .holds .2));
-      bounds = λ w h. omega (arith, h .2, mono o v (J .earliest (h .0)) (e .bounds (J .earliest (h .0)) (h .0, in← (h .1), refl)));
+    -- an end is passed by what lasts d from a start on exactly where its moment is
+    past→ : (end start : ℤ) (d : ℕ) → Above o end → Above o start → end <ℤ (start +ℤ pos d) → moment o end < moment o start + d
+    past→ end start d e s h = omega (arith, plus o start d s, mono< o end (start +ℤ pos d) e (plus-above o start d s) h)
+
+    past← : (end start : ℤ) (d : ℕ) → Above o end → Above o start → moment o end < moment o start + d → end <ℤ (start +ℤ pos d)
+    past← end start d e s h = reflect< o end (start +ℤ pos d) e (plus-above o start d s) (omega (arith, plus o start d s))
+
+    -- P over whole numbers is Q over their moments
+    record Matches (P : ℤ → Type 0) (Q : ℕ → Type 0) : Type 0 where
+      there : (v : ℤ) → P v → Q (moment o v)
+      above : (v : ℤ) → P v → Above o v
+      back : (m : ℕ) → Q m → Is P m
+
+    -- and so are the least and the largest of which they hold
+    module _ {P : ℤ → Type 0} {Q : ℕ → Type 0} (m : Matches P Q) where
+      least→ : (v : ℤ) → Least whole P v → Least natural Q (moment o v)
+      least→ v e = record { holds = m .there v (e .holds); bounds = λ w h. let g = m .back w h in omega (arith, g .is, mono o v (g .at) (e .bounds (g .at) (g .holds))) }
+
+      largest→ : (v : ℤ) → Largest whole P v → Largest natural Q (moment o v)
+      largest→ v e = record { holds = m .there v (e .holds); bounds = λ w h. let g = m .back w h in omega (arith, g .is, mono o (g .at) v (e .bounds (g .at) (g .holds))) }
+
+      least← : (v : ℕ) → Least natural Q v → Is (Least whole P) v
+      least← v e =
+          let g = m .back v (e .holds) in
+          let low : (w : ℤ) → P w → g .at ≤ℤ w = λ w h. reflect o (g .at) w (g .above) (m .above w h) (omega (arith, g .is, e .bounds (moment o w) (m .there w h))) in
+          record { at = g .at; above = g .above; is = g .is; holds = record { holds = g .holds; bounds = low } }
+
+      largest← : (v : ℕ) → Largest natural Q v → Is (Largest whole P) v
+      largest← v e =
+          let g = m .back v (e .holds) in
+          let high : (w : ℤ) → P w → w ≤ℤ g .at = λ w h. reflect o w (g .at) (m .above w h) (g .above) (omega (arith, g .is, e .bounds (moment o w) (m .there w h))) in
+          record { at = g .at; above = g .above; is = g .is; holds = record { holds = g .holds; bounds = high } }
+
+    -- the values of f at the tasks of a set are, in moments, those of g
+    of-set : (f : ℕ → ℤ) (g : ℕ → ℕ) → ((k : ℕ) → k < J .count → moment o (f k) ≡ g k) → ((k : ℕ) → k < J .count → Above o (f k)) → (Ω : TaskSet)
+        → Matches (λ t. (k : ℕ) × In J Ω k × (f k ≡ t)) (λ t. (k : ℕ) × In N Ω k × (g k ≡ t))
+    of-set f g is above Ω = record {
+      there = λ v (k, h, z). (k, in→ h, sym (is k (h .small)) ∙ ap (moment o) z);
+      above = λ v (k, h, z). subst (Above o) z (above k (h .small));
+      back = λ m (k, h, z). record { at = f k; above = above k (h .small); is = is k (h .small) ∙ z; holds = (k, in← h, refl) };
     }
+
+    starting : (Ω : TaskSet) → Matches (λ t. (k : ℕ) × In J Ω k × (J .earliest k ≡ t)) (λ t. (k : ℕ) × In N Ω k × (N .earliest k ≡ t))
+    starting = of-set (J .earliest) (N .earliest) (λ k q. refl) low
+
+    ending : (Ω : TaskSet) → Matches (λ t. (k : ℕ) × In J Ω k × (completion J k ≡ t)) (λ t. (k : ℕ) × In N Ω k × (completion N k ≡ t))
+    ending = of-set (completion J) (completion N) (λ k q. plus o (J .latest k) (J .duration k) (high k q)) (λ k q. plus-above o (J .latest k) (J .duration k) (high k q))
 
     est-above : (Ω : TaskSet) (v : ℤ) → Est J Ω v → Above o v
-    est-above Ω v e = subst (Above o) (e .holds .2) (low (e .holds .0) (e .holds .1 .small))
-
-    est← : (Ω : TaskSet) (m : ℕ) → Est N Ω m → Is (Est J Ω) m
-    est← Ω m e =
-        let (k, h, z) = e .holds in
-        record {
-          at = J .earliest k;
-          above = low k (h .small);
-          is = z;
-          holds = record {
-            holds = (k, in← h, refl);
-            bounds = λ w g. subst (λ (x : ℤ). J .earliest k ≤ℤ x) (g .2) (reflect o (J .earliest k) (J .earliest (g .0)) (low k (h .small)) (low (g .0) (g .1 .small))
-                (omega (arith, z, e .bounds (moment o (J .earliest (g .0))) (g .0, in→ (g .1), refl))));
-          };
-        }
-
-    end-is : (k : ℕ) → k < J .count → moment o (completion J k) ≡ completion N k
-    end-is k q = plus o (J .latest k) (J .duration k) (high k q)
-
-    end-above : (k : ℕ) → k < J .count → Above o (completion J k)
-    end-above k q = plus-above o (J .latest k) (J .duration k) (high k q)
-
-    lct→ : (Ω : TaskSet) (v : ℤ) → Lct J Ω v → Lct N Ω (moment o v)
-    lct→ Ω v e = record {
-      holds = (e .holds .0, in→ (e .holds .1), sym (end-is (e .holds .0) (e .holds .1 .small)) ∙ ap (moment o) (e .holds .2));
-      bounds = λ w h. omega (arith, h .2, end-is (h .0) (h .1 .small), mono o (completion J (h .0)) v (e .bounds (completion J (h .0)) (h .0, in← (h .1), refl)));
-    }
+    est-above Ω v e = starting Ω .above v (e .holds)
 
     lct-above : (Ω : TaskSet) (v : ℤ) → Lct J Ω v → Above o v
-    lct-above Ω v e = subst (Above o) (e .holds .2) (end-above (e .holds .0) (e .holds .1 .small))
-
-    lct← : (Ω : TaskSet) (m : ℕ) → Lct N Ω m → Is (Lct J Ω) m
-    lct← Ω m e =
-        let (k, h, z) = e .holds in
-        record {
-          at = completion J k;
-          above = end-above k (h .small);
-          is = end-is k (h .small) ∙ z;
-          holds = record {
-            holds = (k, in← h, refl);
-            bounds = λ w g. subst (λ (x : ℤ). x ≤ℤ completion J k) (g .2) (reflect o (completion J (g .0)) (completion J k) (end-above (g .0) (g .1 .small)) (end-above k (h .small))
-                (omega (arith, z, end-is k (h .small), end-is (g .0) (g .1 .small), e .bounds (completion N (g .0)) (g .0, in→ (g .1), refl))));
-          };
-        }
+    lct-above Ω v e = ending Ω .above v (e .holds)
 
     part→ : (Ω : TaskSet) (v : ℤ) → EstPlusP J Ω v → EstPlusP N Ω (moment o v)
     part→ Ω v f = record {
       part = f .part;
       within = λ k h. f .within k (in← h);
       start = moment o (f .start);
-      est = est→ (f .part) (f .start) (f .est);
+      est = least→ (starting (f .part)) (f .start) (f .est);
       sum = omega (arith, plus o (f .start) (processing J (f .part)) (est-above (f .part) (f .start) (f .est)), ap (moment o) (f .sum), processing-eq (f .part));
     }
 
@@ -105,7 +107,7 @@ module _ (o : ℕ) where
 
     part← : (Ω : TaskSet) (m : ℕ) → EstPlusP N Ω m → Is (EstPlusP J Ω) m
     part← Ω m f =
-        let s : Is (Est J (f .part)) (f .start) = est← (f .part) (f .start) (f .est) in
+        let s : Is (Est J (f .part)) (f .start) = least← (starting (f .part)) (f .start) (f .est) in
         record {
           at = s .at +ℤ pos (processing J (f .part));
           above = plus-above o (s .at) (processing J (f .part)) (s .above);
@@ -113,28 +115,21 @@ module _ (o : ℕ) where
           holds = record { part = f .part; within = λ k h. f .within k (in→ h); start = s .at; est = s .holds; sum = refl };
         }
 
+    parts : (Ω : TaskSet) → Matches (EstPlusP J Ω) (EstPlusP N Ω)
+    parts Ω = record { there = part→ Ω; above = part-above Ω; back = part← Ω }
+
     pub ect→ : (Ω : TaskSet) (v : ℤ) → Ect J Ω v → Ect N Ω (moment o v)
-    ect→ Ω v e = record { holds = part→ Ω v (e .holds); bounds = λ w f. let g : Is (EstPlusP J Ω) w = part← Ω w f in omega (arith, g .is, mono o (g .at) v (e .bounds (g .at) (g .holds))) }
+    ect→ Ω = largest→ (parts Ω)
 
     pub ect← : (Ω : TaskSet) (m : ℕ) → Ect N Ω m → Is (Ect J Ω) m
-    ect← Ω m e =
-        let g : Is (EstPlusP J Ω) m = part← Ω m (e .holds) in
-        record {
-          at = g .at;
-          above = g .above;
-          is = g .is;
-          holds = record {
-            holds = g .holds;
-            bounds = λ w f. reflect o w (g .at) (part-above Ω w f) (g .above) (omega (arith, g .is, e .bounds (moment o w) (part→ Ω w f)));
-          };
-        }
+    ect← Ω = largest← (parts Ω)
 
     pub edge→ : (i : ℕ) (b : ℤ) → EdgeFindingBound J i b → EdgeFindingBound N i (moment o b)
     edge→ i b r = record {
       set = r .set;
       outside = record { small = r .outside .small; mem = r .outside .mem };
       end = moment o (r .end);
-      lct = lct→ (r .set) (r .end) (r .lct);
+      lct = largest→ (ending (r .set)) (r .end) (r .lct);
       joint = moment o (r .joint);
       ect-with = ect→ (r .set with i) (r .joint) (r .ect-with);
       passes = mono< o (r .end) (r .joint) (lct-above (r .set) (r .end) (r .lct)) (part-above (r .set with i) (r .joint) (r .ect-with .holds)) (r .passes);
@@ -146,7 +141,7 @@ module _ (o : ℕ) where
 
     pub edge← : (i m : ℕ) → EdgeFindingBound N i m → Is (EdgeFindingBound J i) m
     edge← i m r =
-        let c : Is (Lct J (r .set)) (r .end) = lct← (r .set) (r .end) (r .lct) in
+        let c : Is (Lct J (r .set)) (r .end) = largest← (ending (r .set)) (r .end) (r .lct) in
         let j : Is (Ect J (r .set with i)) (r .joint) = ect← (r .set with i) (r .joint) (r .ect-with) in
         let v : Is (Ect J (r .set)) m = ect← (r .set) m (r .ect) in
         record {
@@ -169,27 +164,21 @@ module _ (o : ℕ) where
     overload→ Ω v = record {
       start = moment o (v .start);
       end = moment o (v .end);
-      est = est→ Ω (v .start) (v .est);
-      lct = lct→ Ω (v .end) (v .lct);
-      over = omega (
-        arith,
-        processing-eq Ω,
-        plus o (v .start) (processing J Ω) (est-above Ω (v .start) (v .est)),
-        mono< o (v .end) (v .start +ℤ pos (processing J Ω)) (lct-above Ω (v .end) (v .lct)) (plus-above o (v .start) (processing J Ω) (est-above Ω (v .start) (v .est))) (v .over),
-      );
+      est = least→ (starting Ω) (v .start) (v .est);
+      lct = largest→ (ending Ω) (v .end) (v .lct);
+      over = omega (arith, processing-eq Ω, past→ (v .end) (v .start) (processing J Ω) (lct-above Ω (v .end) (v .lct)) (est-above Ω (v .start) (v .est)) (v .over));
     }
 
     pub overload← : (Ω : TaskSet) → Overloads N Ω → Overloads J Ω
     overload← Ω v =
-        let s : Is (Est J Ω) (v .start) = est← Ω (v .start) (v .est) in
-        let c : Is (Lct J Ω) (v .end) = lct← Ω (v .end) (v .lct) in
+        let s : Is (Est J Ω) (v .start) = least← (starting Ω) (v .start) (v .est) in
+        let c : Is (Lct J Ω) (v .end) = largest← (ending Ω) (v .end) (v .lct) in
         record {
           start = s .at;
           end = c .at;
           est = s .holds;
           lct = c .holds;
-          over = reflect< o (c .at) (s .at +ℤ pos (processing J Ω)) (c .above) (plus-above o (s .at) (processing J Ω) (s .above))
-              (omega (arith, processing-eq Ω, c .is, s .is, plus o (s .at) (processing J Ω) (s .above), v .over));
+          over = past← (c .at) (s .at) (processing J Ω) (c .above) (s .above) (omega (arith, processing-eq Ω, c .is, s .is, v .over));
         }
 
     pub schedule→ : (s : ℕ → ℤ) → Schedule J s → Schedule N (λ k. moment o (s k))
@@ -213,26 +202,26 @@ module _ (o : ℕ) where
     done← now m task bound an ab d = record {
       no-overload = λ Ω v. d .no-overload Ω (overload→ Ω v);
       no-passing = λ i b r. reflect o b (J .latest i) (edge-above i b r) (high i (r .outside .small)) (d .no-passing i (moment o b) (edge→ i b r));
-      starts = λ i q. record {
-        holds = elim (d .starts i q .holds) [
-          | inl z ↦ inl (same o (J .earliest i) (now i) (low i q) (an i q) z)
-          | inr r ↦ inr
-              (the (EdgeFindingBound J i) (now i) (an i q) (edge← i (moment o (now i)) r))
-        ];
-        bounds = λ w h. elim h [
-          | inl z ↦ subst (λ (x : ℤ). x ≤ℤ now i) z (reflect o (J .earliest i) (now i) (low i q) (an i q) (d .starts i q .bounds (moment o (J .earliest i)) (inl refl)))
-          | inr r ↦ reflect o w (now i) (edge-above i w r) (an i q) (d .starts i q .bounds (moment o w) (inr (edge→ i w r)))
-        ];
-      };
+      starts = λ i q. the (Largest whole (λ v. (J .earliest i ≡ v) ⊎ EdgeFindingBound J i v)) (now i) (an i q) (largest← (starts i q) (moment o (now i)) (d .starts i q));
       small = d .small;
       raises = λ j q. reflect< o (J .earliest (task j)) (bound j) (low (task j) (d .small j q)) (ab j q) (d .raises j q);
-      at-largest = λ j q. record {
-        holds = the (EdgeFindingBound J (task j)) (bound j) (ab j q) (edge← (task j) (moment o (bound j)) (d .at-largest j q .holds));
-        bounds = λ w r. reflect o w (bound j) (edge-above (task j) w r) (ab j q) (d .at-largest j q .bounds (moment o w) (edge→ (task j) w r));
-      };
+      at-largest = λ j q. the (Largest whole (EdgeFindingBound J (task j))) (bound j) (ab j q) (largest← (edges (task j)) (moment o (bound j)) (d .at-largest j q));
       every = λ k q r. d .every k q (mono< o (J .earliest k) (now k) (low k q) (an k q) r);
       once = d .once;
     }
+      where
+        edges : (i : ℕ) → Matches (EdgeFindingBound J i) (EdgeFindingBound N i)
+        edges i = record { there = edge→ i; above = edge-above i; back = edge← i }
+
+        starts : (i : ℕ) → i < J .count → Matches (λ v. (J .earliest i ≡ v) ⊎ EdgeFindingBound J i v) (λ v. (N .earliest i ≡ v) ⊎ EdgeFindingBound N i v)
+        starts i q = record {
+          there = λ v h. elim h [ inl z ↦ inl (ap (moment o) z) | inr r ↦ inr (edge→ i v r) ];
+          above = λ v h. elim h [ inl z ↦ subst (Above o) z (low i q) | inr r ↦ edge-above i v r ];
+          back = λ m h. elim h [
+            | inl z ↦ record { at = J .earliest i; above = low i q; is = z; holds = inl refl }
+            | inr r ↦ (let e = edge← i m r in record { at = e .at; above = e .above; is = e .is; holds = inr (e .holds) })
+          ];
+        }
 
     pub conflict← : Conflict N → Conflict J
     conflict← (inl (Ω, v)) = inl (Ω, overload← Ω v)
@@ -249,21 +238,11 @@ module _ (o : ℕ) where
           start = moment o (c .start);
           end = moment o (c .end);
           joint = moment o (c .joint);
-          est = est→ Ω (c .start) (c .est);
-          lct = lct→ Ω (c .end) (c .lct);
+          est = least→ (starting Ω) (c .start) (c .est);
+          lct = largest→ (ending Ω) (c .end) (c .lct);
           ect = ect→ Ω (c .joint) (c .ect);
-          over-i = omega (
-            arith,
-            processing-eq Ω,
-            plus o (J .earliest i) d (low i q),
-            mono< o (c .end) (J .earliest i +ℤ pos d) (lct-above Ω (c .end) (c .lct)) (plus-above o (J .earliest i) d (low i q)) (c .over-i),
-          );
-          over-Ω = omega (
-            arith,
-            processing-eq Ω,
-            plus o (c .start) d (est-above Ω (c .start) (c .est)),
-            mono< o (c .end) (c .start +ℤ pos d) (lct-above Ω (c .end) (c .lct)) (plus-above o (c .start) d (est-above Ω (c .start) (c .est))) (c .over-Ω),
-          );
+          over-i = omega (arith, processing-eq Ω, past→ (c .end) (J .earliest i) d (lct-above Ω (c .end) (c .lct)) (low i q) (c .over-i));
+          over-Ω = omega (arith, processing-eq Ω, past→ (c .end) (c .start) d (lct-above Ω (c .end) (c .lct)) (est-above Ω (c .start) (c .est)) (c .over-Ω));
           passes = mono< o (J .latest i) (c .joint) (high i q) (part-above Ω (c .joint) (c .ect .holds)) (c .passes);
         }
 
@@ -271,8 +250,8 @@ module _ (o : ℕ) where
     checks← Ω i c =
         let q : i < J .count = c .outside .small in
         let d : ℕ = processing J Ω + J .duration i in
-        let s : Is (Est J Ω) (c .start) = est← Ω (c .start) (c .est) in
-        let e : Is (Lct J Ω) (c .end) = lct← Ω (c .end) (c .lct) in
+        let s : Is (Est J Ω) (c .start) = least← (starting Ω) (c .start) (c .est) in
+        let e : Is (Lct J Ω) (c .end) = largest← (ending Ω) (c .end) (c .lct) in
         let v : Is (Ect J Ω) (c .joint) = ect← Ω (c .joint) (c .ect) in
         record {
           outside = record { small = q; mem = c .outside .mem };
@@ -282,8 +261,7 @@ module _ (o : ℕ) where
           est = s .holds;
           lct = e .holds;
           ect = v .holds;
-          over-i = reflect< o (e .at) (J .earliest i +ℤ pos d) (e .above) (plus-above o (J .earliest i) d (low i q))
-              (omega (arith, processing-eq Ω, e .is, plus o (J .earliest i) d (low i q), c .over-i));
-          over-Ω = reflect< o (e .at) (s .at +ℤ pos d) (e .above) (plus-above o (s .at) d (s .above)) (omega (arith, processing-eq Ω, e .is, s .is, plus o (s .at) d (s .above), c .over-Ω));
+          over-i = past← (e .at) (J .earliest i) d (e .above) (low i q) (omega (arith, processing-eq Ω, e .is, c .over-i));
+          over-Ω = past← (e .at) (s .at) d (e .above) (s .above) (omega (arith, processing-eq Ω, e .is, s .is, c .over-Ω));
           passes = reflect< o (J .latest i) (v .at) (high i q) (v .above) (omega (arith, v .is, c .passes));
         }

@@ -1,13 +1,13 @@
 -- Every non-empty set has an est, an lct and an ect.
 use mathlib.Core.Path.{_≡_, refl}
-use mathlib.Core.Bool.{Bool, true, false, _&&_}
+use mathlib.Core.Bool.{true, _&&_}
 use mathlib.Core.Logic.{inl, inr}
 use Prim.Native.Nat.{ℕ, _+_, _-_, _≤_}
 use native.Mathlib.Omega.{arith}
 use lib.Dec.{leb}
 use borrow.Author.Tests.{leb-true, le-leb}
-use Rattle.scheduling.specs.Scheduling.{natural, Tasks, TaskSet, _with_, In, NonEmpty, completion, Est, Lct, processing, Ect}
-use Rattle.integers.proofs.Bools.{clash}
+use Rattle.scheduling.specs.Scheduling.{natural, Tasks, TaskSet, In, NonEmpty, completion, Est, Lct, processing, Ect}
+use Rattle.integers.proofs.Bools.{clash, and-true}
 use Rattle.scheduling.proofs.Sets.{top}
 use Rattle.scheduling.proofs.Processing.{processing-mono}
 
@@ -40,11 +40,7 @@ module _ (J : Tasks natural) where
   since Ω x k = leb x (J .earliest k) && Ω k
 
   since-in : (Ω : TaskSet) (x k : ℕ) → since Ω x k ≡ true → (x ≤ J .earliest k) × (Ω k ≡ true)
-  since-in Ω x k h = go (leb x (J .earliest k)) refl h
-    where
-      go : (b : Bool) → leb x (J .earliest k) ≡ b → b && Ω k ≡ true → (x ≤ J .earliest k) × (Ω k ≡ true)
-      go true e q = (leb-true _ _ e, q)
-      go false e q = clash q refl
+  since-in Ω x k h = let (y, q) = and-true (leb x (J .earliest k)) (Ω k) h in (leb-true _ _ y, q)
 
   since-out : (Ω : TaskSet) (x k : ℕ) → x ≤ J .earliest k → Ω k ≡ true → since Ω x k ≡ true
   since-out Ω x k h q = rw (le-leb _ _ h) q

@@ -7,8 +7,8 @@ use native.Mathlib.Omega.{arith}
 use native.Mathlib.Decide.{decLe}
 use Rattle.integers.proofs.Bools.{bool, clash, and-true, and-yes, or-true, or-right}
 use Rattle.scheduling.specs.Scheduling.{natural, Tasks, TaskSet, total, In, Subset, processing, EstPlusP, Ect}
-use Rattle.scheduling.proofs.Sets.{Empty, top, total-ext, total-mono}
-use Rattle.scheduling.proofs.Processing.{term, term-true, term-false}
+use Rattle.scheduling.proofs.Sets.{Empty, top, total-ext}
+use Rattle.scheduling.proofs.Processing.{term, term-true, term-false, processing-mono}
 use Rattle.scheduling.proofs.LargerSets.{part-mono}
 
 infixl 15 _∪_
@@ -28,19 +28,6 @@ total-sum f g zero = refl
 total-sum f g (suc n) = omega (arith, total-sum f g n)
 
 module _ (J : Tasks natural) where
-  -- p of a set that two others cover
-  pub processing-cover : (S A B : TaskSet) → Subset J S (A ∪ B) → processing J S ≤ processing J A + processing J B
-  unfolding processing term
-  processing-cover S A B sub =
-      omega (arith, total-sum (term J A) (term J B) (J .count), total-mono (term J S) (λ k. term J A k + term J B k) (J .count) each)
-    where
-      each : (k : ℕ) → k < J .count → term J S k ≤ term J A k + term J B k
-      each k q = elim (bool (S k)) [
-        | inr z ↦ omega (arith, term-false J S k z)
-        | inl y ↦ elim (or-true (A k) (B k) (sub k (record { small = q; mem = y })))
-            [ inl a ↦ omega (arith, term-true J S k y, term-true J A k a) | inr b ↦ omega (arith, term-true J S k y, term-true J B k b) ]
-      ]
-
   -- p of two sets with no task in common
   pub processing-union : (A B : TaskSet) → ((k : ℕ) → In J A k → B k ≡ false) → processing J (A ∪ B) ≡ processing J A + processing J B
   unfolding processing term
@@ -62,19 +49,10 @@ module _ (J : Tasks natural) where
       part = f .part ∪ B;
       start = f .start;
       within = within;
-      est = record { holds = (k, in-both km, e); bounds = bounds };
+      est = record { holds = (f .est .holds .0, in-both (f .est .holds .1), f .est .holds .2); bounds = bounds };
       sum = omega (arith, f .sum, processing-union (f .part) B (λ j h. apart j (in-A j h)));
     }
       where
-        k : ℕ
-        k = f .est .holds .0
-
-        km : In J (f .part) k
-        km = f .est .holds .1
-
-        e : J .earliest k ≡ f .start
-        e = f .est .holds .2
-
         in-A : (j : ℕ) → In J (f .part) j → In J A j
         in-A j h = record { small = h .small; mem = f .within j h }
 
@@ -88,13 +66,19 @@ module _ (J : Tasks natural) where
         bounds : (w : ℕ) → (j : ℕ) × In J (f .part ∪ B) j × (J .earliest j ≡ w) → f .start ≤ w
         bounds w h = elim (or-true (f .part (h .0)) (B (h .0)) (h .1 .mem)) [
           | inl y ↦ f .est .bounds w (h .0, record { small = h .1 .small; mem = y }, h .2)
-          | inr y ↦ omega (arith, e, h .2, before k (h .0) (in-A k km) (record { small = h .1 .small; mem = y }))
+          | inr y ↦ (let (k, km, e) = f .est .holds in omega (arith, h .2, before k (h .0) (in-A k km) (record { small = h .1 .small; mem = y })))
         ]
 
     -- a part with a task of A starts with one, so that it ends by ect(A) + p(B)
     cut : (u w : ℕ) → Ect J A u → (f : EstPlusP J (A ∪ B) w) (k : ℕ) → In J (f .part ∩ A) k → w ≤ u + processing J B
     cut u w a f k km =
-        omega (arith, f .sum, processing-cover (f .part) (f .part ∩ A) B cover, a .bounds (f .start + processing J (f .part ∩ A)) own)
+        omega (
+          arith,
+          f .sum,
+          processing-mono J (f .part) ((f .part ∩ A) ∪ B) cover,
+          processing-union (f .part ∩ A) B (λ j h. apart j (record { small = h .small; mem = (both h) .1 })),
+          a .bounds (f .start + processing J (f .part ∩ A)) own,
+        )
       where
         both : {j : ℕ} → In J (f .part ∩ A) j → (f .part j ≡ true) × (A j ≡ true)
         both {j} h = and-true (f .part j) (A j) (h .mem)

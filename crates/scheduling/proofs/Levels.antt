@@ -83,29 +83,19 @@ module _ (J : Tasks natural) (ok : Proper J) (ect : TaskSet → ℕ) (ect-is : (
     pub same-on : (k : ℕ) → k < J .count → t ≤ place k → now k ≡ J .earliest k
     pub inside : (k : ℕ) → k < J .count → now k ≤ J .latest k
 
-  -- Λ counts only by its members
-  pub facts-same : (t : ℕ) (Λ Λ′ : TaskSet) (now : ℕ → ℕ) → ((k : ℕ) → k < J .count → Λ k ≡ Λ′ k) → Facts t Λ now → Facts t Λ′ now
-  facts-same t Λ Λ′ now z f = record {
-    fits-before = f .fits-before;
-    gray = λ k h. f .gray k (back k h);
-    not-passed = λ k h. f .not-passed k (back k h);
-    left = λ k h. f .left k (record { small = h .small; mem = z k (h .small) ∙ h .mem });
-    same-in = λ k h. f .same-in k (back k h);
-    same-on = f .same-on;
-    inside = f .inside;
-  }
-    where
-      back : (k : ℕ) → In J Λ′ k → In J Λ k
-      back k h = record { small = h .small; mem = z k (h .small) ∙ h .mem }
-
-  pub next : (t : ℕ) (Λ : TaskSet) (now : ℕ → ℕ) → t < J .count → Facts t Λ now → ((k : ℕ) → In J Λ k → ect (Θ t with k) ≤ End t) → ect (Θ t) ≤ End t → Facts (suc t) (Λ with L t) now
-  next t Λ now small f none-passes level-fits =
+  -- L t goes to Λ, of which only the members count
+  pub next : (t : ℕ) (Λ Λ′ : TaskSet) (now : ℕ → ℕ) → t < J .count → Facts t Λ now → ((k : ℕ) → In J Λ k → ect (Θ t with k) ≤ End t) → ect (Θ t) ≤ End t
+      → ((k : ℕ) → k < J .count → Λ′ k ≡ (Λ with L t) k) → Facts (suc t) Λ′ now
+  next t Λ Λ′ now small f none-passes level-fits same =
       record {
         fits-before = below-suc (λ s. ect (Θ s) ≤ End s) t (f .fits-before) level-fits;
-        gray = gray;
-        not-passed = not-passed;
+        gray = λ k h. elim (was k h) [ inl z ↦ omega (arith, at-t k z) | inr y ↦ omega (arith, f .gray k y) ];
+        not-passed = λ k h. elim (was k h) [
+          | inl z ↦ (λ r a b. absurd (omega (arith, at-t k z)))
+          | inr y ↦ (λ r a b. below-suc (λ r. place k < r → ect (Θ r with k) ≤ End r) t (λ r q a. f .not-passed k y r a q) (λ a. none-passes k y) r b a)
+        ];
         left = left;
-        same-in = same-in;
+        same-in = λ k h. elim (was k h) [ inl z ↦ f .same-on k (h .small) (omega (arith, at-t k z)) | inr y ↦ f .same-in k y ];
         same-on = λ k q r. f .same-on k q (omega arith);
         inside = f .inside;
       }
@@ -113,33 +103,26 @@ module _ (J : Tasks natural) (ok : Proper J) (ect : TaskSet → ℕ) (ect-is : (
       at-t : (k : ℕ) → k ≡ L t → place k ≡ t
       at-t k z = rw z (ord .back t small)
 
-      gray : (k : ℕ) → In J (Λ with L t) k → place k < suc t
-      gray k h = elim (with-in Λ (L t) k (h .mem)) [ inl z ↦ omega (arith, at-t k z) | inr y ↦ omega (arith, f .gray k (record { small = h .small; mem = y })) ]
+      was : (k : ℕ) → In J Λ′ k → (k ≡ L t) ⊎ In J Λ k
+      was k h = elim (with-in Λ (L t) k (sym (same k (h .small)) ∙ h .mem)) [ inl z ↦ inl z | inr y ↦ inr (record { small = h .small; mem = y }) ]
 
-      not-passed : (k : ℕ) → In J (Λ with L t) k → (r : ℕ) → place k < r → r < suc t → ect (Θ r with k) ≤ End r
-      not-passed k h = elim (with-in Λ (L t) k (h .mem)) [
-        | inl z ↦ (λ r a b. absurd (omega (arith, at-t k z)))
-        | inr y ↦ (λ r a b. below-suc (λ r. place k < r → ect (Θ r with k) ≤ End r) t (λ r q a. f .not-passed k (record { small = h .small; mem = y }) r a q)
-            (λ a. none-passes k (record { small = h .small; mem = y })) r b a)
-      ]
-
-      left : (k : ℕ) → Outside J (Λ with L t) k → place k < suc t → LeftLambda (suc t) k (now k)
-      left k h q = elim (bool (Λ k)) [
-        | inl y ↦ clash (with-old Λ (L t) k y) (h .mem)
-        | inr y ↦ elim (ℕ-discrete (place k) t) [
-          | yes z ↦ clash (subst (λ (i : ℕ). (Λ with i) k ≡ true) (sym (ord .there k (h .small)) ∙ ap L z) (with-new Λ k)) (h .mem)
-          | no z ↦ (let o = f .left k (record { small = h .small; mem = y }) (omega arith) in
-              record { level = o .level; late = o .late; seen = omega arith; passes = o .passes; first = o .first; raised = o .raised })
-        ]
-      ]
-
-      same-in : (k : ℕ) → In J (Λ with L t) k → now k ≡ J .earliest k
-      same-in k h = elim (with-in Λ (L t) k (h .mem)) [ inl z ↦ f .same-on k (h .small) (omega (arith, at-t k z)) | inr y ↦ f .same-in k (record { small = h .small; mem = y }) ]
+      left : (k : ℕ) → Outside J Λ′ k → place k < suc t → LeftLambda (suc t) k (now k)
+      left k h q =
+          let out = sym (same k (h .small)) ∙ h .mem in
+          elim (bool (Λ k)) [
+            | inl y ↦ clash (with-old Λ (L t) k y) out
+            | inr y ↦ elim (ℕ-discrete (place k) t) [
+              | yes z ↦ clash (subst (λ (i : ℕ). (Λ with i) k ≡ true) (sym (ord .there k (h .small)) ∙ ap L z) (with-new Λ k)) out
+              | no z ↦ (let o = f .left k (record { small = h .small; mem = y }) (omega arith) in
+                  record { level = o .level; late = o .late; seen = omega arith; passes = o .passes; first = o .first; raised = o .raised })
+            ]
+          ]
 
   -- i leaves Λ
-  pub leave : (t : ℕ) (Λ : TaskSet) (now now′ : ℕ → ℕ) (i : ℕ) → Facts t Λ now → In J Λ i → End t < ect (Θ t with i)
-      → now′ i ≡ max (J .earliest i) (ect (Θ t)) → now′ i ≤ J .latest i → ((k : ℕ) → (k ≡ i → ⊥) → now′ k ≡ now k) → Facts t (Λ less i) now′
-  leave t Λ now now′ i f h over new fits others =
+  pub leave : (t : ℕ) (Λ Λ′ : TaskSet) (now now′ : ℕ → ℕ) (i : ℕ) → Facts t Λ now → In J Λ i → End t < ect (Θ t with i)
+      → now′ i ≡ max (J .earliest i) (ect (Θ t)) → now′ i ≤ J .latest i → ((k : ℕ) → (k ≡ i → ⊥) → now′ k ≡ now k)
+      → ((k : ℕ) → k < J .count → Λ′ k ≡ (Λ less i) k) → Facts t Λ′ now′
+  leave t Λ Λ′ now now′ i f h over new fits others same =
       record {
         fits-before = f .fits-before;
         gray = λ k m. f .gray k (kept k m);
@@ -150,16 +133,16 @@ module _ (J : Tasks natural) (ok : Proper J) (ect : TaskSet → ℕ) (ect-is : (
         inside = inside;
       }
     where
-      kept : (k : ℕ) → In J (Λ less i) k → In J Λ k
-      kept k m = record { small = m .small; mem = (less-in Λ i k (m .mem)) .0 }
+      kept : (k : ℕ) → In J Λ′ k → In J Λ k
+      kept k m = record { small = m .small; mem = less-in Λ i k (sym (same k (m .small)) ∙ m .mem) .0 }
 
-      apart : (k : ℕ) → In J (Λ less i) k → k ≡ i → ⊥
-      apart k m = (less-in Λ i k (m .mem)) .1
+      apart : (k : ℕ) → In J Λ′ k → k ≡ i → ⊥
+      apart k m = less-in Λ i k (sym (same k (m .small)) ∙ m .mem) .1
 
-      left : (k : ℕ) → Outside J (Λ less i) k → place k < t → LeftLambda t k (now′ k)
+      left : (k : ℕ) → Outside J Λ′ k → place k < t → LeftLambda t k (now′ k)
       left k m q = elim (ℕ-discrete k i) [
         | yes z ↦ rw z (record { level = t; late = f .gray i h; seen = omega arith; passes = over; first = f .not-passed i h; raised = new })
-        | no z ↦ rw (others k z) (f .left k (record { small = m .small; mem = elim (bool (Λ k)) [ inl y ↦ clash (less-out Λ i k y z) (m .mem) | inr y ↦ y ] }) q)
+        | no z ↦ rw (others k z) (f .left k (record { small = m .small; mem = elim (bool (Λ k)) [ inl y ↦ clash (less-out Λ i k y z) (sym (same k (m .small)) ∙ m .mem) | inr y ↦ y ] }) q)
       ]
 
       same-on : (k : ℕ) → k < J .count → t ≤ place k → now′ k ≡ J .earliest k

@@ -2,7 +2,6 @@
 use mathlib.Core.Logic.{inl, inr, _↔_}
 use Prim.Native.Nat.{ℕ, zero, suc}
 use lib.IntN.{ℤ, pos, negsuc}
-use lib.Signed.{_≤ℤ_}
 use Rattle.integers.proofs.Ints.{up, dn, ints, sumℤ, equalℤ, ≤ℤ-cases}
 use Rattle.scheduling.specs.Scheduling.{Atom, Compares, Allows, negatedKind, negatedValue, negation}
 

@@ -1,14 +1,13 @@
 -- The reasons of posts and overloads: they hold at entry, and they pass the checker's formula.
 use mathlib.Core.Path.{_≡_, refl}
 use mathlib.Core.Bool.{true, false, cond}
-use mathlib.Core.Logic.{_⊎_, inl, inr}
+use mathlib.Core.Logic.{inl, inr}
 use Prim.Native.Nat.{ℕ, _+_, _-_, _≤_, _<_}
 use native.Mathlib.Omega.{arith}
 use lib.Dec.{eqb}
 use borrow.Author.Tests.{ne-eqb, eq-eqb}
 use Rattle.integers.proofs.Bools.{bool, clash}
-use Rattle.scheduling.specs.Scheduling.{natural, Tasks, Proper, TaskSet, _with_, In, Outside, NonEmpty, Subset, completion, Est, processing, EstPlusP, Overloads, RuleFormula}
-use Rattle.scheduling.proofs.Sets.{_less_}
+use Rattle.scheduling.specs.Scheduling.{natural, Tasks, Proper, TaskSet, In, Outside, NonEmpty, Subset, completion, Est, processing, EstPlusP, Overloads, RuleFormula}
 use Rattle.scheduling.proofs.Processing.{processing-less}
 use Rattle.scheduling.proofs.Exists.{est-some, lct-some, ect-some}
 
@@ -27,10 +26,6 @@ module _ (J : Tasks natural) (ok : Proper J) (Ω Ω′ : TaskSet) (i r s′ b c 
 
   apart : (k : ℕ) → In J Ω k → k ≡ i → ⊥
   apart k h z = clash (h .mem) (rw (← z) at (out .mem))
-
-  early : (k : ℕ) → (Ω′ k ≡ true) ⊎ (Ω′ k ≡ false) → (Given .earliest k ≡ s′) ⊎ (Given .earliest k ≡ r)
-  early k (inl y) = inl (rw y)
-  early k (inr y) = inr (rw y)
 
   late : (k : ℕ) → In J Ω k → Given .latest k ≡ last - J .duration k
   late k h = rw (ne-eqb k i (apart k h))
@@ -58,7 +53,7 @@ module _ (J : Tasks natural) (ok : Proper J) (Ω Ω′ : TaskSet) (i r s′ b c 
   r-s′ = let (k, km, e) = est′ .holds in omega (arith, e, low k (record { small = km .small; mem = sub k km }))
 
   earliest-r : (k : ℕ) → r ≤ Given .earliest k
-  earliest-r k = elim (early k (bool (Ω′ k))) [ inl e ↦ omega (arith, r-s′) | inr e ↦ omega arith ]
+  earliest-r k = elim (bool (Ω′ k)) [ inl y ↦ rw y r-s′ | inr y ↦ rw y (omega arith) ]
 
   at-s′ : (k : ℕ) → Ω′ k ≡ true → Given .earliest k ≡ s′
   at-s′ k y = rw y

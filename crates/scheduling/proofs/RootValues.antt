@@ -2,15 +2,15 @@
 use mathlib.Core.Path.{_≡_, sym, ap, _∙_}
 use mathlib.Core.Bool.{Bool, true, false, _&&_}
 use mathlib.Core.Logic.{_⊎_, inl, inr}
-use Prim.Native.Nat.{ℕ, zero, suc, _+_, _-_, _≤_, _<_, max}
+use Prim.Native.Nat.{ℕ, zero, suc, _+_, _≤_, _<_, max}
 use native.Mathlib.Omega.{arith}
 use native.Mathlib.Nat.{zero-add}
 use lib.Dec.{ltb}
-use borrow.Author.Tests.{lt-ltb}
+use borrow.Author.Tests.{ne-eqb, lt-ltb}
 use native.Mathlib.Decide.{decLe, ℕ-discrete}
 use Rattle.integers.proofs.Bools.{bool, clash}
 use Rattle.scheduling.specs.Scheduling.{natural, Tasks, Proper, TaskSet, _with_, In}
-use Rattle.scheduling.proofs.Sets.{with-in, with-new, with-old}
+use Rattle.scheduling.proofs.Sets.{with-new, with-old}
 use Rattle.scheduling.proofs.Scan.{scan, scan-in, scan-out, scan-zero}
 use Rattle.scheduling.specs.Moments.{ByEarliest}
 use Rattle.scheduling.proofs.LeafRanges as leafRange
@@ -48,10 +48,7 @@ module _ (J : Tasks natural) (ok : Proper J) (T rank : ℕ → ℕ) (rk : ByEarl
       step ih (inr y) (inr v) = omega (arith, leafRange.no-leaf w g e p 0 d d (zero-add d) (held Ω d q y) (held Λ d q v) .t, scan-out J T rank ok rk Ω d y)
 
   with-other : (i d : ℕ) → (T d ≡ i → ⊥) → (Ω with i) (T d) ≡ Ω (T d)
-  with-other i d ne = elim (bool (Ω (T d))) [
-    | inl y ↦ with-old Ω i (T d) y ∙ sym y
-    | inr y ↦ elim (bool ((Ω with i) (T d))) [ inl v ↦ elim (with-in Ω i (T d) v) [ inl z ↦ absurd (ne z) | inr u ↦ clash u y ] | inr v ↦ v ∙ sym y ]
-  ]
+  with-other i d ne = rw (ne-eqb (T d) i ne)
 
   scan-with : (i d : ℕ) → (T d ≡ i → ⊥) → scan J T rank (Ω with i) d ≡ scan J T rank Ω d → scan J T rank (Ω with i) (suc d) ≡ scan J T rank Ω (suc d)
   scan-with i d ne ih = elim (bool (Ω (T d))) [

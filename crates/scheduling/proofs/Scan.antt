@@ -1,14 +1,14 @@
 -- The recurrence of the ect, place by place, with 0 for none as the tree's words have it: its value is the ect of the set.
 -- Assumes an order of the tasks by earliest start.
 use mathlib.Core.Path.{_≡_, refl, sym, ap, _∙_}
-use mathlib.Core.Bool.{Bool, true, false, cond, _&&_}
+use mathlib.Core.Bool.{true, false, cond, _&&_}
 use mathlib.Core.Logic.{_⊎_, inl, inr}
-use Prim.Native.Nat.{ℕ, zero, suc, _+_, _-_, _≤_, _<_, max}
+use Prim.Native.Nat.{ℕ, zero, suc, _+_, _≤_, _<_, max}
 use native.Mathlib.Omega.{arith}
 use native.Mathlib.Decide.{decLe, ℕ-discrete}
 use borrow.Author.Tests.{ltb-true, lt-ltb}
 use lib.Dec.{ltb}
-use Rattle.integers.proofs.Bools.{bool, clash}
+use Rattle.integers.proofs.Bools.{bool, clash, and-true}
 use Rattle.scheduling.specs.Scheduling.{natural, Tasks, Proper, TaskSet, _with_, In, NonEmpty, Subset, processing, EstPlusP, Ect}
 use Rattle.scheduling.specs.Moments.{ByEarliest}
 use Rattle.scheduling.proofs.Sets.{_less_, less-in, less-out, with-in, with-new, with-old}
@@ -25,11 +25,7 @@ module _ (J : Tasks natural) (T rank : ℕ → ℕ) where
 
   module _ (ok : Proper J) (rk : ByEarliest J T rank) (Ω : TaskSet) where
     pub and-in : (S : TaskSet) (j k : ℕ) → upto S j k ≡ true → (rank k < j) × (S k ≡ true)
-    and-in S j k h = go (ltb (rank k) j) refl h
-      where
-        go : (b : Bool) → ltb (rank k) j ≡ b → b && S k ≡ true → (rank k < j) × (S k ≡ true)
-        go true e q = (ltb-true _ _ e, q)
-        go false e q = clash q refl
+    and-in S j k h = let (y, q) = and-true (ltb (rank k) j) (S k) h in (ltb-true _ _ y, q)
 
     pub and-out : (S : TaskSet) (j k : ℕ) → rank k < j → S k ≡ true → upto S j k ≡ true
     and-out S j k h q = rw (lt-ltb _ _ h) q

@@ -5,9 +5,9 @@ use lib.IntN.{ℤ}
 use lib.Signed.{_≤ℤ_, clashℤ, <ℤ-≤ℤ-trans}
 use Rattle.integers.specs.Moments.{moment, Above}
 use Rattle.integers.proofs.MomentSums.{reflect, above-up, deep}
-use Rattle.scheduling.specs.Scheduling.{whole, Tasks, Proper, TaskSet, EdgeFindingBound, Overloads, Schedule, Conflict, Done}
-use Rattle.scheduling.proofs.Rule.{rule-sound as natural-rule-sound, overload-sound as natural-overload-sound}
-use Rattle.scheduling.proofs.Clocks.{sound, edge→, edge-above, overload→, schedule→}
+use Rattle.scheduling.specs.Scheduling.{whole, Tasks, Proper, TaskSet, EdgeFindingBound, Overloads, Schedule, Conflict, Done, RuleFormula}
+use Rattle.scheduling.proofs.Rule.{rule-sound as natural-rule-sound, check-sound as natural-check-sound, overload-sound as natural-overload-sound}
+use Rattle.scheduling.proofs.Clocks.{sound, edge→, edge-above, overload→, schedule→, checks→}
 use Rattle.scheduling.specs.Moments.{moments}
 
 module _ (J : Tasks whole) (ok : Proper J) where
@@ -28,7 +28,11 @@ module _ (J : Tasks whole) (ok : Proper J) where
   pub overload-sound : (s : ℕ → ℤ) → Schedule J s → (Ω : TaskSet) → Overloads J Ω → ⊥
   overload-sound s h Ω v = natural-overload-sound (moments o J) (sound o J ok low) (λ k. moment o (s k)) (schedule→ o J ok low s h) Ω (overload→ o J ok low Ω v)
 
-  -- So it is where a bound passes a latest start.
+  -- So it is where the checker's formula passes.
+  pub formula-sound : (s : ℕ → ℤ) → Schedule J s → (Ω : TaskSet) (i : ℕ) → RuleFormula J Ω i → ⊥
+  formula-sound s h Ω i c = natural-check-sound (moments o J) (sound o J ok low) (λ k. moment o (s k)) (schedule→ o J ok low s h) Ω i (checks→ o J ok low Ω i c)
+
+  -- And where a bound passes a latest start.
   pub conflict-sound : Conflict J → (s : ℕ → ℤ) → Schedule J s → ⊥
   conflict-sound (inl (Ω, v)) s h = overload-sound s h Ω v
   conflict-sound (inr (i, b, r, q)) s h = clashℤ (<ℤ-≤ℤ-trans q (rule-sound s h i b r)) (h .to i (r .outside .small))

@@ -1,12 +1,12 @@
 -- The ect of a set is est + p of a suffix of it in the order of earliest starts.
 use mathlib.Core.Path.{_≡_, refl, ap}
-use mathlib.Core.Bool.{Bool, true, false, _&&_}
-use Prim.Native.Nat.{ℕ, _+_, _-_, _≤_, _<_}
+use mathlib.Core.Bool.{true, _&&_}
+use Prim.Native.Nat.{ℕ, _+_, _≤_, _<_}
 use native.Mathlib.Omega.{arith}
 use lib.Dec.{leb}
 use borrow.Author.Tests.{leb-true, le-leb}
-use Rattle.integers.proofs.Bools.{clash}
-use Rattle.scheduling.specs.Scheduling.{natural, Tasks, TaskSet, _with_, In, NonEmpty, Subset, Est, processing, EstPlusP, Ect}
+use Rattle.integers.proofs.Bools.{and-true}
+use Rattle.scheduling.specs.Scheduling.{natural, Tasks, TaskSet, In, NonEmpty, Subset, Est, processing, EstPlusP, Ect}
 use Rattle.scheduling.specs.Moments.{ByEarliest}
 use Rattle.scheduling.proofs.Processing.{processing-mono}
 use Rattle.scheduling.proofs.Exists.{least-at}
@@ -17,11 +17,7 @@ module _ (J : Tasks natural) (T rank : ℕ → ℕ) (rk : ByEarliest J T rank) (
   suffix m k = leb (rank m) (rank k) && Θ k
 
   pub suffix-in : (m k : ℕ) → suffix m k ≡ true → (rank m ≤ rank k) × (Θ k ≡ true)
-  suffix-in m k h = go (leb (rank m) (rank k)) refl h
-    where
-      go : (b : Bool) → leb (rank m) (rank k) ≡ b → b && Θ k ≡ true → (rank m ≤ rank k) × (Θ k ≡ true)
-      go true e q = (leb-true _ _ e, q)
-      go false e q = clash q refl
+  suffix-in m k h = let (y, q) = and-true (leb (rank m) (rank k)) (Θ k) h in (leb-true _ _ y, q)
 
   pub suffix-out : (m k : ℕ) → rank m ≤ rank k → Θ k ≡ true → suffix m k ≡ true
   suffix-out m k h q = rw (le-leb _ _ h) q
