@@ -5,15 +5,15 @@ use mathlib.Core.List.{List, [], _∷_, _++_}
 use Prim.Native.Nat.{ℕ, zero, suc, _+_, _-_, _≤_, _<_}
 use native.Mathlib.Omega.{arith}
 use native.Mathlib.Numerals.{add-one}
-use native.Mathlib.Decide.{decLt}
+use native.Mathlib.Decide.{decLt, ℕ-discrete}
 use lib.ListN.{length, getD, take, drop, length-append}
 use lib.Seq.{take-append-seam, drop-append-seam, getD-append-seam}
 use Rattle.trees.specs.Searches.{thetaOf}
 use Rattle.trees.specs.ArraySearches.{Next}
 use Rattle.trees.proofs.WhiteTasks.{theta-none, theta-white, theta-skip}
 use Rattle.runs.proofs.WalkStops.{theta-append}
-use Rattle.explanations.specs.Walks.{lasts, Each, Somewhere, Walks, Meets, between, StopsAt}
-use Rattle.explanations.proofs.Places.{Walked, begins, enough, at-most, goes-on, stops-at}
+use Rattle.explanations.specs.Walks.{lasts, Each, At, Somewhere, Walks, Meets, between, StopsAt}
+use Rattle.explanations.proofs.Places.{lasts-cons, lasts-drop}
 
 -- the next white leaf is the first one from itself on
 pub next-again : {white : ℕ → Bool} {a n y : ℕ} → Next white a n y → Next white y n y
@@ -141,38 +141,57 @@ pub record WalkedTo (white : ℕ → Bool) (task : ℕ → ℕ) (P : ℕ → ℕ
   pub from : a ≤ x
   pub small : x < n
   pub here : white x ≡ true
-  pub walked : Walked P ds (between white task a n) (length (between white task a x)) q
+  pub rest : q ≡ lasts ds (drop (length (between white task a x)) (between white task a n))
+  pub before : (y : ℕ) → y < length (between white task a x) → At P ds (between white task a n) y → ⊥
 
 module _ {white : ℕ → Bool} {task : ℕ → ℕ} {P : ℕ → ℕ → Type 0} {ds : List ℕ} {a n : ℕ} where
   pub sets-out : {p x : ℕ} → p ≡ lasts ds (between white task a n) → Somewhere P ds (between white task a n) → Next white a n x → WalkedTo white task P ds a n x p
   sets-out {p} {x} t s y =
-      let first : Walked P ds (between white task a n) (length (between white task a x)) p = rw (met-first white task y) (begins t s) in
-      let small : x < n = met-inside white task a n x (y .from) (y .to) (first .small) in
-      record { from = y .from; small = small; here = y .found small; walked = first }
+      let small : x < n = met-inside white task a n x (y .from) (y .to) (omega (arith, met-first white task y, s .small)) in
+      record { from = y .from; small = small; here = y .found small; rest = rw (met-first white task y) t; before = λ z h. absurd (omega (arith, met-first white task y)) }
 
   module _ {x q : ℕ} (w : WalkedTo white task P ds a n x q) where
+    abbrev tasks : List ℕ
+    tasks = between white task a n
+
+    abbrev so-far : ℕ
+    so-far = length (between white task a x)
+
     is : getD (between white task a n) (length (between white task a x)) 0 ≡ task x
     is = met-task white task a n x (w .from) (w .small) (w .here)
 
+    there : so-far < length tasks
+    there = met-small white task a n x (w .from) (w .small) (w .here)
+
+    -- the tasks from x on: that of x, and those after it
+    next-lasts : q ≡ getD ds (task x) 0 + lasts ds (drop (suc so-far) tasks)
+    next-lasts = w .rest ∙ lasts-cons ds tasks so-far there ∙ ap (λ (k : ℕ). getD ds k 0 + lasts ds (drop (suc so-far) tasks)) is
+
     pub enough-there : getD ds (task x) 0 ≤ q
-    enough-there = rw is at (enough (w .walked))
+    enough-there = omega (arith, next-lasts)
 
     pub most-there : q ≤ lasts ds (between white task a n)
-    most-there = at-most (w .walked)
+    most-there = omega (arith, w .rest, lasts-drop ds tasks so-far)
 
     pub known-there : (Q : ℕ → Type 0) → Each Q (between white task a n) → Q (task x)
     known-there Q h = met-each white task a n x (w .from) (w .small) (w .here) Q h
 
+    -- the next leaf, which there is: the walk stops somewhere, and has not so far
     pub walks-on : {y : ℕ} → Somewhere P ds (between white task a n) → (P (task x) q → ⊥) → Next white (x + 1) n y → WalkedTo white task P ds a n y (q - getD ds (task x) 0)
     walks-on {y} s unmet t =
-        let one : Walked P ds (between white task a n) (length (between white task a x) + 1) (q - getD ds (task x) 0) = rw is at (goes-on (w .walked) s (rw is unmet)) in
-        let next : Walked P ds (between white task a n) (length (between white task a y)) (q - getD ds (task x) 0) = rw (met-next white task a n x (w .from) (w .small) (w .here) t) one in
+        let more : length (between white task a y) ≡ suc so-far = met-next white task a n x (w .from) (w .small) (w .here) t ∙ add-one so-far in
         let from : a ≤ y = omega (arith, w .from, t .from) in
-        let small : y < n = met-inside white task a n y from (t .to) (next .small) in
-        record { from = from; small = small; here = t .found small; walked = next }
+        let small : y < n = met-inside white task a n y from (t .to) (omega (arith, more, later, s .small)) in
+        record { from = from; small = small; here = t .found small; rest = rw more (omega (arith, next-lasts)); before = λ z h. before z (omega (arith, more)) }
+      where
+        before : (z : ℕ) → z < suc so-far → At P ds tasks z → ⊥
+        before z h b = elim (ℕ-discrete z so-far) [ yes e ↦ unmet (rw (is, ← w .rest) at (subst (At P ds tasks) e b)) | no e ↦ w .before z (omega arith) b ]
+
+        later : so-far < s .place
+        later = elim (decLt so-far (s .place)) [ yes z ↦ z | no z ↦ absurd (before (s .place) (omega arith) (s .holds)) ]
 
     pub halts : P (task x) q → StopsAt white task P ds a n x q
-    halts h = record { from = w .from; small = w .small; here = w .here; first = stops-at (w .walked) (rw is h) }
+    halts h = record { from = w .from; small = w .small; here = w .here; first = record { small = there; rest = w .rest; holds = rw is h; before = w .before } }
 
 -- a walk from a is the walk from the first white leaf there
 pub stops-from : (white : ℕ → Bool) (task : ℕ → ℕ) {P : ℕ → ℕ → Type 0} {ds : List ℕ} {a n y x q : ℕ} → Next white a n y → StopsAt white task P ds y n x q → StopsAt white task P ds a n x q

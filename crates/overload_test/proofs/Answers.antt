@@ -56,25 +56,31 @@ module _ (J : Tasks natural) where
   pub answer-no : (n k : ℕ) → n ≤ k → answerFrom J k (n - k) ≡ No
   answer-no n k q = let z : n - k ≡ 0 = omega arith in ap (answerFrom J k) z ∙ ends-no k
 
-  -- yes at a place of the d from k on that overloads, or no where none of them does
-  record Stopped (k d : ℕ) : Type 0 where
-    at : ℕ
-    is : answerFrom J k d ≡ Yes (suc at)
-    small : at < k + d
-    over : overloadsAt J at ≡ true
+  -- yes at the first place of the d from k on that overloads, or no where none of them does
+  pub record Stopped (k d : ℕ) : Type 0 where
+    pub at : ℕ
+    pub is : answerFrom J k d ≡ Yes (suc at)
+    pub from : k ≤ at
+    pub small : at < k + d
+    pub over : overloadsAt J at ≡ true
+    pub before : (j : ℕ) → k ≤ j → j < at → overloadsAt J j ≡ false
 
-  record Passed (k d : ℕ) : Type 0 where
-    is : answerFrom J k d ≡ No
-    none : (j : ℕ) → k ≤ j → j < k + d → overloadsAt J j ≡ false
+  pub record Passed (k d : ℕ) : Type 0 where
+    pub is : answerFrom J k d ≡ No
+    pub none : (j : ℕ) → k ≤ j → j < k + d → overloadsAt J j ≡ false
 
-  stopped-or-passed : (k d : ℕ) → Stopped k d ⊎ Passed k d
+  pub stopped-or-passed : (k d : ℕ) → Stopped k d ⊎ Passed k d
   stopped-or-passed k zero = inr (record { is = ends-no k; none = λ j p q. absurd (omega arith) })
   stopped-or-passed k (suc d) = by (bool (overloadsAt J k)) (stopped-or-passed (suc k) d)
     where
+      more : {end : ℕ} → overloadsAt J k ≡ false → ((j : ℕ) → suc k ≤ j → j < end → overloadsAt J j ≡ false) → (j : ℕ) → k ≤ j → j < end → overloadsAt J j ≡ false
+      more y rest j p q = elim (ℕ-discrete k j) [ yes z ↦ ap (overloadsAt J) (sym z) ∙ y | no z ↦ rest j (omega arith) q ]
+
       by : (overloadsAt J k ≡ true) ⊎ (overloadsAt J k ≡ false) → Stopped (suc k) d ⊎ Passed (suc k) d → Stopped k (suc d) ⊎ Passed k (suc d)
-      by (inl y) t = inl (record { at = k; is = stops k d y; small = omega arith; over = y })
-      by (inr y) (inl s) = inl (record { at = s .at; is = goes-on k d y ∙ s .is; small = omega (arith, s .small); over = s .over })
-      by (inr y) (inr p) = inr (record { is = goes-on k d y ∙ p .is; none = λ j a b. elim (ℕ-discrete k j) [ yes z ↦ ap (overloadsAt J) (sym z) ∙ y | no z ↦ p .none j (omega arith) (omega arith) ] })
+      by (inl y) t = inl (record { at = k; is = stops k d y; from = omega arith; small = omega arith; over = y; before = λ j p q. absurd (omega arith) })
+      by (inr y) (inl s) =
+          inl (record { at = s .at; is = goes-on k d y ∙ s .is; from = omega (arith, s .from); small = omega (arith, s .small); over = s .over; before = more y (s .before) })
+      by (inr y) (inr p) = inr (record { is = goes-on k d y ∙ p .is; none = more y (λ j a b. p .none j a (omega arith)) })
 
   -- yes with some number of them, or no, exactly where some set overloads, or none
   pub record Says (r : Overload) : Type 0 where

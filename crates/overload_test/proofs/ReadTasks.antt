@@ -1,29 +1,24 @@
 -- The tasks by latest completion and the first of them: those read overload exactly where some set of all the tasks does.
 use mathlib.Core.Path.{_≡_, refl, sym, ap, subst, _∙_}
-use mathlib.Core.Bool.{Bool, true, false, cond}
+use mathlib.Core.Bool.{true, false}
 use mathlib.Core.Logic.{_⊎_, inl, inr}
 use mathlib.Core.List.{List}
 use Prim.Native.Nat.{ℕ, suc, _+_, _≤_, _<_}
 use native.Mathlib.Omega.{arith}
-use native.Mathlib.Decide.{ℕ-discrete}
 use lib.Dec.{leb}
-use lib.ListN.{length, getD, set, take, replicate, length-take, length-map, length-set, length-replicate}
-use lib.Seq.{getD-take, ext-getD, getD-set-same, getD-set-other}
+use lib.ListN.{getD, take, length-take}
+use lib.Seq.{getD-take}
 use borrow.Author.Tests.{leb-true}
 use Rattle.integers.specs.Orders.{index, has, Distinct, Permutes, numbers, Ordered}
 use Rattle.integers.proofs.Bools.{bool, clash}
-use Rattle.integers.proofs.FilledLists.{getD-fresh}
-use Rattle.integers.proofs.Lists.{getD-map-in}
 use Rattle.integers.proofs.Permutations.{has-at, index-at, index-back, numbers-permute}
 use Rattle.integers.proofs.StableSort.{sort-permutes, sort-ordered, key-whole, key-chain}
 use Rattle.scheduling.specs.Scheduling.{natural, Tasks, Proper, TaskSet, In, NonEmpty, EstPlusP, Overloads, completion, processing}
-use Rattle.scheduling.specs.Ects.{byEarliest, ectOf}
-use Rattle.scheduling.proofs.Ects.{by-earliest, order-size, ect-is, ect-some}
+use Rattle.scheduling.specs.Ects.{ectOf}
+use Rattle.scheduling.proofs.Ects.{ect-is, ect-some}
 use Rattle.scheduling.proofs.Exists.{largest-at}
 use Rattle.trees.proofs.Ects.{exceeds-yes, some-exceeds}
-use Rattle.trees.specs.Leaves.{empty, white}
 use Rattle.overload_test.specs.ReadTasks.{byCompletion, read, overloadsAt}
-use Rattle.overload_test.specs.ReadArrays.{colours}
 
 -- The front of a list ----------------------------------------------------------------------------------------------------------
 
@@ -33,14 +28,14 @@ front-has l k x h q =
     let (small, is) = index-at l x h in
     subst (λ (y : ℕ). has (take k l) y ≡ true) (getD-take k l (index l x) 0 q ∙ is) (has-at (take k l) (index l x) (omega (arith, length-take k l, small)))
 
-front-place : (l : List ℕ) → Distinct l → (k x : ℕ) → has (take k l) x ≡ true → index l x < k
+front-place : (l : List ℕ) → Distinct l → (k x : ℕ) → has (take k l) x ≡ true → (has l x ≡ true) × (index l x < k)
 front-place l d k x h =
     let (small, is) = index-at (take k l) x h in
     let j : ℕ = index (take k l) x in
     let q : j < k = omega (arith, length-take k l, small) in
     let e : getD l j 0 ≡ x = sym (getD-take k l j 0 q) ∙ is in
     let z : index l x ≡ j = ap (index l) (sym e) ∙ index-back l d j (omega (arith, length-take k l, small)) in
-    omega (arith, z, q)
+    (subst (λ (y : ℕ). has l y ≡ true) e (has-at l j (omega (arith, length-take k l, small))), omega (arith, z, q))
 
 module _ (J : Tasks natural) where
   -- The order ------------------------------------------------------------------------------------------------------------------
@@ -64,65 +59,29 @@ module _ (J : Tasks natural) where
   read-yes k j q r = front-has (byCompletion J) k j (permutes .every j q) r
 
   pub read-place : (k j : ℕ) → read J k j ≡ true → place j < k
-  read-place k j h = front-place (byCompletion J) (permutes .distinct) k j h
+  read-place k j h = front-place (byCompletion J) (permutes .distinct) k j h .1
+
+  read-small : (k j : ℕ) → read J k j ≡ true → j < J .count
+  read-small k j h = permutes .below j (front-place (byCompletion J) (permutes .distinct) k j h .0)
 
   -- one task more
-  read-new : (k : ℕ) → k < J .count → read J (suc k) (at k) ≡ true
+  pub read-new : (k : ℕ) → k < J .count → read J (suc k) (getD (byCompletion J) k 0) ≡ true
   read-new k q = read-yes (suc k) (at k) (by-completion .task k q) (omega (arith, by-completion .back k q))
 
-  read-old : (k j : ℕ) → j < J .count → (j ≡ at k → ⊥) → read J (suc k) j ≡ read J k j
-  read-old k j q ne = by (bool (read J (suc k) j)) (bool (read J k j))
+  pub read-old : (k j : ℕ) → (j ≡ getD (byCompletion J) k 0 → ⊥) → read J (suc k) j ≡ read J k j
+  read-old k j ne = by (bool (read J (suc k) j)) (bool (read J k j))
     where
       by : (read J (suc k) j ≡ true) ⊎ (read J (suc k) j ≡ false) → (read J k j ≡ true) ⊎ (read J k j ≡ false) → read J (suc k) j ≡ read J k j
       by (inl a) (inl b) = a ∙ sym b
       by (inl a) (inr b) =
+          let q : j < J .count = read-small (suc k) j a in
           let other : place j ≡ k → ⊥ = λ z. ne (sym (by-completion .there j q) ∙ ap at z) in
           clash (read-yes k j q (omega (arith, read-place (suc k) j a, other))) b
-      by (inr a) (inl b) = clash (read-yes (suc k) j q (omega (arith, read-place k j b))) a
+      by (inr a) (inl b) = clash (read-yes (suc k) j (read-small k j b) (omega (arith, read-place k j b))) a
       by (inr a) (inr b) = a ∙ sym b
 
   pub read-none : (j : ℕ) → read J 0 j ≡ false
   read-none j = elim (bool (read J 0 j)) [ inl y ↦ absurd (omega (arith, read-place 0 j y)) | inr y ↦ y ]
-
-  -- The colours of the leaves --------------------------------------------------------------------------------------------------
-
-  -- none is white where no task is chosen
-  pub all-blank : replicate (J .count) empty ≡ colours J (λ _. false)
-  all-blank = ext-getD empty (replicate (J .count) empty) (colours J (λ _. false)) (length-replicate (J .count) empty ∙ sym (length-map (byEarliest J) (λ _. empty) ∙ order-size J))
-      (λ x q. getD-fresh empty (J .count) x ∙ sym (getD-map-in (λ _. empty) (byEarliest J) x 0 empty (omega (arith, order-size J, length-replicate (J .count) empty))))
-
-  -- task i's leaf becomes white
-  recoloured : (Ω Ω′ : TaskSet) (i : ℕ) → i < J .count → Ω′ i ≡ true → ((j : ℕ) → j < J .count → (j ≡ i → ⊥) → Ω′ j ≡ Ω j) → set (colours J Ω) (index (byEarliest J) i) white ≡ colours J Ω′
-  recoloured Ω Ω′ i q new old = ext-getD empty (set (colours J Ω) (index estOrder i) white) (colours J Ω′) (set-size ∙ sym (size Ω′))
-      (λ x r. by x (omega (arith, set-size, size Ω)) (ℕ-discrete x (index estOrder i)))
-    where
-      estOrder : List ℕ
-      estOrder = byEarliest J
-
-      size : (S : TaskSet) → length (colours J S) ≡ J .count
-      size S = length-map estOrder (λ k. cond (S k) white empty) ∙ order-size J
-
-      set-size : length (set (colours J Ω) (index estOrder i) white) ≡ J .count
-      set-size = length-set (colours J Ω) (index estOrder i) white ∙ size Ω
-
-      colour-at : (S : TaskSet) (x : ℕ) → x < J .count → getD (colours J S) x empty ≡ cond (S (getD estOrder x 0)) white empty
-      colour-at S x r = getD-map-in (λ k. cond (S k) white empty) estOrder x 0 empty (omega (arith, order-size J))
-
-      by : (x : ℕ) → x < J .count → Dec (x ≡ index estOrder i) → getD (set (colours J Ω) (index estOrder i) white) x empty ≡ getD (colours J Ω′) x empty
-      by x r (yes z) =
-          rw z (getD-set-same (colours J Ω) (index estOrder i) white empty (omega (arith, size Ω, by-earliest J .placed i q)))
-          ∙ sym (colour-at Ω′ x r ∙ ap (λ (b : Bool). cond b white empty) (ap (λ (y : ℕ). Ω′ (getD estOrder y 0)) z ∙ ap Ω′ (by-earliest J .there i q) ∙ new))
-      by x r (no z) =
-          let t : ℕ = getD estOrder x 0 in
-          let other : t ≡ i → ⊥ = λ e. z (sym (by-earliest J .back x r) ∙ ap (index estOrder) e) in
-          getD-set-other (colours J Ω) (index estOrder i) x white empty z
-          ∙ colour-at Ω x r
-          ∙ ap (λ (b : Bool). cond b white empty) (sym (old t (by-earliest J .task x r) other))
-          ∙ sym (colour-at Ω′ x r)
-
-  -- the next task's does, when it is read
-  pub next-coloured : (k : ℕ) → k < J .count → set (colours J (read J k)) (index (byEarliest J) (getD (byCompletion J) k 0)) white ≡ colours J (read J (suc k))
-  next-coloured k q = recoloured (read J k) (read J (suc k)) (at k) (by-completion .task k q) (read-new k q) (λ j r ne. read-old k j r ne)
 
   -- Overloads ------------------------------------------------------------------------------------------------------------------
 

@@ -1,20 +1,16 @@
 -- What the code holds while it reads: the tasks in arrays, and the theta tree.
 use mathlib.Core.Path.{_≡_}
-use mathlib.Core.Bool.{false, cond}
-use mathlib.Core.List.{List, [], map}
+use mathlib.Core.Bool.{false}
+use mathlib.Core.List.{List, []}
 use Prim.Native.Nat.{ℕ, _<_}
-use lib.ListN.{getD}
+use lib.ListN.{getD, replicate}
 use Rattle.integers.specs.Orders.{index}
 use Rattle.scheduling.specs.Scheduling.{natural, Tasks, TaskSet, completion}
 use Rattle.scheduling.specs.Ects.{byEarliest}
-use Rattle.trees.specs.Leaves.{Leaf, empty, white}
+use Rattle.trees.specs.Leaves.{empty}
 use Rattle.trees.specs.Trees.{IsPlainTree}
 use Rattle.chosen_sets.specs.TaskArrays.{HeldSet}
 use Rattle.overload_test.specs.ReadTasks.{byCompletion}
-
--- the leaves stand in the order of earliest starts, and the tasks of Ω are in theta
-abbrev pub colours : Tasks natural → TaskSet → List Leaf
-colours J Ω = map (λ k. cond (Ω k) white empty) (byEarliest J)
 
 -- no task is in theta yet
 abbrev pub noTask : TaskSet
@@ -25,6 +21,6 @@ pub record Readable (inner n : ℕ) (words mapping tasks est lct durations : Lis
   pub J : Tasks natural
   pub held : HeldSet J noTask n [] est durations
   pub ends : (k : ℕ) → k < n → getD lct k 0 ≡ completion J k
-  pub tree : IsPlainTree J (byEarliest J) (colours J noTask) inner words
+  pub tree : IsPlainTree J (byEarliest J) (replicate (J .count) empty) inner words
   pub place : (k : ℕ) → k < n → getD mapping k 0 ≡ index (byEarliest J) k
   pub task : (t : ℕ) → t < n → getD tasks t 0 ≡ getD (byCompletion J) t 0

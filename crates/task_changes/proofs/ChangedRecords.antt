@@ -10,7 +10,6 @@ use lib.ListN.{length, getD, take, set, length-append, List·getD-append}
 use lib.Seq.{length-take-le, getD-take, getD-append-seam}
 use borrow.Author.Tests.{leb-true, le-leb, ltb-true}
 use Rattle.integers.specs.Limits.{TASKS, DURATIONS}
-use Rattle.integers.specs.Tests.{AllPassed}
 use Rattle.integers.proofs.Bools.{clash}
 use Rattle.integers.proofs.Ints.{leZ-true, le-leZ}
 use Rattle.integers.proofs.Tests.{accepted}
@@ -142,10 +141,9 @@ not-negative (pos n) h = leZ-true (pos 0) (pos n) (le-leb 0 n (omega arith))
 not-negative (negsuc n) h = clash (le-leZ (pos 1) (negsuc n) h) refl
 
 pub addable : (r : DisjunctivePropagator) (d : ℤ) → addNumber r d ≡ 0 → Addable r d
-addable r d h = facts (accepted (addTests r d) refl h)
-  where
-    facts : AllPassed (addTests r d) → Addable r d
-    facts (a, (b, (c, (e, _)))) = record {
+addable r d h =
+    let (a, (b, (c, (e, _)))) = accepted (addTests r d) refl h in
+    record {
       lawful = lawful-is r .0 a;
       room = omega (arith, count-is (r .count + 1) .0 b .1);
       lasts = leZ-true (pos 1) d c;
@@ -153,10 +151,9 @@ addable r d h = facts (accepted (addTests r d) refl h)
     }
 
 pub removable : (r : DisjunctivePropagator) (t : ℕ) → removeNumber r t ≡ 0 → Removable r t
-removable r t h = facts (accepted (removeTests r t) refl h)
-  where
-    facts : AllPassed (removeTests r t) → Removable r t
-    facts (a, (b, (c, _))) = record { lawful = lawful-is r .0 a; there = ltb-true t (r .count) b; many = omega (arith, count-is (r .count - 1) .0 c .0) }
+removable r t h =
+    let (a, (b, (c, _))) = accepted (removeTests r t) refl h in
+    record { lawful = lawful-is r .0 a; there = ltb-true t (r .count) b; many = omega (arith, count-is (r .count - 1) .0 c .0) }
 
 -- What the calls meet.
 left : {c : Changed} {after : DisjunctivePropagator} {x : Change} → c ≡ record { «record» = after; answer = x } → ChangeLeft (changeNumbers x) after c

@@ -84,12 +84,18 @@ module _ {A : Type 0} (join : A → A → A) where
   pub own-tree : (m : ℕ) (leaf at : ℕ → A) → TreeOf join m leaf at → TreeOf join m (leavesOf m at) at
   own-tree m leaf at t = record { joins = t .joins; leaves = λ k. refl }
 
+-- what joins keep of two trees' nodes holds of those over the same leaves
+pub over-both : {A B : Type 0} {join : A → A → A} {join′ : B → B → B} (R : A → B → Type 0) → ((l r : A) (l′ r′ : B) → R l l′ → R r r′ → R (join l r) (join′ l′ r′)) → (leaf : ℕ → A) (leaf′ : ℕ → B)
+    → ((k : ℕ) → R (leaf k) (leaf′ k)) → (h a : ℕ) → R (nodeOver join leaf h a) (nodeOver join′ leaf′ h a)
+over-both {join = join} {join′} R keeps leaf leaf′ each zero a = rw (over-leaf join leaf a, over-leaf join′ leaf′ a) (each a)
+over-both {join = join} {join′} R keeps leaf leaf′ each (suc h) a = rw (over-join join leaf h a, over-join join′ leaf′ h a)
+    (keeps _ _ _ _ (over-both R keeps leaf leaf′ each h a) (over-both R keeps leaf leaf′ each h (a + width h)))
+
 -- bounds -----------------------------------------------------------------------------------------------------------------------
 
 module _ {A : Type 0} {size : A → ℕ} {Fair : A → Type 0} {join : A → A → A} (law : Additive size Fair join) where
   over-fair : (leaf : ℕ → A) → Bounded size Fair leaf → (h a : ℕ) → Fair (nodeOver join leaf h a)
-  over-fair leaf b zero a = rw (over-leaf join leaf a) (b .fair a)
-  over-fair leaf b (suc h) a = rw (over-join join leaf h a) (law .keeps _ _ (over-fair leaf b h a) (over-fair leaf b h (a + width h)))
+  over-fair leaf b = over-both {join′ = join} (λ n _. Fair n) (λ l r _ _. law .keeps l r) leaf leaf (b .fair)
 
   over-size : (leaf : ℕ → A) → Bounded size Fair leaf → (h a : ℕ) → total (λ k. size (leaf k)) a + size (nodeOver join leaf h a) ≤ total (λ k. size (leaf k)) (a + width h)
   over-size leaf b zero a =

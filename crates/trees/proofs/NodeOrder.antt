@@ -2,7 +2,7 @@
 use mathlib.Core.Path.{_≡_, refl}
 use mathlib.Core.Bool.{true, false}
 use mathlib.Core.List.{List}
-use Prim.Native.Nat.{ℕ, zero, suc, _+_, _≤_, _<_}
+use Prim.Native.Nat.{ℕ, _≤_, _<_}
 use native.Mathlib.Omega.{arith}
 use native.Mathlib.Decide.{ℕ-discrete}
 use lib.ListN.{length, getD, set}
@@ -11,12 +11,12 @@ use Rattle.integers.proofs.Bools.{clash}
 use Rattle.scheduling.specs.Scheduling.{natural, Tasks}
 use Rattle.trees.specs.declared.theta_lambda_node.Node.{Node}
 use Rattle.trees.specs.Nodes.{joinOf}
-use Rattle.trees.specs.Shapes.{width, heightFor, nodeOver}
+use Rattle.trees.specs.Shapes.{heightFor}
 use Rattle.trees.specs.Ects.{exceeds, raisedTo}
 use Rattle.trees.specs.Leaves as leaves
 use Rattle.trees.specs.Leaves.{Leaf, empty, gray, inTheta, whiteAt, leafNode, startAt, durationAt, root}
 use Rattle.trees.proofs.Ects.{raised-decoded, within-bound}
-use Rattle.trees.proofs.ArrayTrees.{over-leaf, over-join}
+use Rattle.trees.proofs.ArrayTrees.{over-both}
 
 pub record AtMost (m n : Node) : Type 0 where
   pub ect : m .ect ≤ n .ect
@@ -37,19 +37,6 @@ join-under : (l r : Node) → UnderBars l → UnderBars r → UnderBars (joinOf 
 unfolding joinOf
 join-under l r a b = record { ect = omega arith; sum = omega arith }
 
-over-most : (leaf leaf′ : ℕ → Node) → ((k : ℕ) → AtMost (leaf k) (leaf′ k)) → (h a : ℕ) → AtMost (nodeOver joinOf leaf h a) (nodeOver joinOf leaf′ h a)
-over-most leaf leaf′ each zero a = rw (over-leaf joinOf leaf a, over-leaf joinOf leaf′ a) (each a)
-over-most leaf leaf′ each (suc h) a =
-    rw (over-join joinOf leaf h a, over-join joinOf leaf′ h a)
-    (join-most (nodeOver joinOf leaf h a) (nodeOver joinOf leaf′ h a) (nodeOver joinOf leaf h (a + width h)) (nodeOver joinOf leaf′ h (a + width h)) (over-most leaf leaf′ each h a)
-    (over-most leaf leaf′ each h (a + width h)))
-
-over-under : (leaf : ℕ → Node) → ((k : ℕ) → UnderBars (leaf k)) → (h a : ℕ) → UnderBars (nodeOver joinOf leaf h a)
-over-under leaf each zero a = rw (over-leaf joinOf leaf a) (each a)
-over-under leaf each (suc h) a =
-    rw (over-join joinOf leaf h a)
-    (join-under (nodeOver joinOf leaf h a) (nodeOver joinOf leaf h (a + width h)) (over-under leaf each h a) (over-under leaf each h (a + width h)))
-
 -- leaves
 same-most : (n : Node) → AtMost n n
 same-most n = record { ect = omega arith; sum = omega arith; ect-bar = omega arith; sum-bar = omega arith }
@@ -67,7 +54,8 @@ leaf-under leaves.gray e p = record { ect = omega arith; sum = omega arith }
 module _ (J : Tasks natural) (estOrder : List ℕ) (ls : List Leaf) where
   root-under : UnderBars (root J estOrder ls)
   unfolding root
-  root-under = over-under (leaves.leaves J estOrder ls) (λ k. leaf-under (getD ls k empty) (startAt J estOrder k) (durationAt J estOrder k)) (heightFor (J .count)) 0
+  root-under = over-both {join′ = joinOf} (λ n _. UnderBars n) (λ l r _ _. join-under l r) (leaves.leaves J estOrder ls) (leaves.leaves J estOrder ls)
+      (λ k. leaf-under (getD ls k empty) (startAt J estOrder k) (durationAt J estOrder k)) (heightFor (J .count)) 0
 
   -- an ect_bar that is not past a moment: neither is the ect
   pub ect-within : (m : ℕ) → raisedTo 0 (leaves.ect-bar J estOrder ls) ≤ m → exceeds (leaves.ect J estOrder ls) m ≡ false
@@ -78,7 +66,7 @@ module _ (J : Tasks natural) (estOrder : List ℕ) (ls : List Leaf) where
   module _ (k : ℕ) (inside : k < length ls) (is-white : whiteAt ls k ≡ true) where
     root-most : AtMost (root J estOrder (set ls k gray)) (root J estOrder ls)
     unfolding root
-    root-most = over-most (leaves.leaves J estOrder (set ls k gray)) (leaves.leaves J estOrder ls) each (heightFor (J .count)) 0
+    root-most = over-both AtMost (λ l r l′ r′. join-most l l′ r r′) (leaves.leaves J estOrder (set ls k gray)) (leaves.leaves J estOrder ls) each (heightFor (J .count)) 0
       where
         each : (j : ℕ) → AtMost (leafNode (getD (set ls k gray) j empty) (startAt J estOrder j) (durationAt J estOrder j)) (leafNode (getD ls j empty) (startAt J estOrder j) (durationAt J estOrder j))
         each j = elim (ℕ-discrete j k) [

@@ -1,10 +1,13 @@
 -- Words of an array that stand for nodes: what a store of one node's words does.
-use mathlib.Core.Path.{_≡_, sym, ap, _∙_}
-use mathlib.Core.List.{List}
-use Prim.Native.Nat.{ℕ, _+_, _*_, _<_}
+use mathlib.Core.Path.{_≡_, refl, sym, ap, _∙_}
+use mathlib.Core.Logic.{_⊎_, inl, inr}
+use mathlib.Core.List.{List, [], _∷_}
+use Prim.Native.Nat.{ℕ, zero, suc, _+_, _*_, _≤_, _<_}
+use native.Mathlib.Decide.{decLt}
+use native.Mathlib.Numerals.{add-one}
 use native.Mathlib.Omega.{arith}
 use lib.ListN.{getD, set, length, length-set, replicate}
-use lib.Seq.{getD-set-same, getD-set-other, set-getD}
+use lib.Seq.{sets, length-sets, getD-set-same, getD-set-other, set-getD}
 use Rattle.integers.specs.Limits.{NODES, THETAWORDS, TREEWORDS}
 use Rattle.integers.proofs.FilledLists.{getD-fresh}
 use Rattle.trees.specs.declared.theta_lambda_node.Node.{Node}
@@ -15,21 +18,16 @@ use Rattle.trees.specs.Puts.{whitePart}
 use Rattle.trees.specs.Words.{nodeAt, plainAt}
 use Rattle.trees.proofs.ArrayTrees.{changed-is}
 
--- two words from k on
-abbrev pub pair : List ℕ → ℕ → ℕ → ℕ → List ℕ
-pair ws k a b = set (set ws k a) (k + 1) b
+-- words stored from place i on: the others stay, and these are there
+sets-out : (vs l : List ℕ) (i j : ℕ) → (j < i) ⊎ (i + length vs ≤ j) → getD (sets l i vs) j 0 ≡ getD l j 0
+sets-out [] l i j q = refl
+sets-out (v ∷ vs) l i j (inl q) = sets-out vs (set l i v) (suc i) j (inl (omega arith)) ∙ getD-set-other l i j v 0 (λ e. omega arith)
+sets-out (v ∷ vs) l i j (inr q) = sets-out vs (set l i v) (suc i) j (inr (omega arith)) ∙ getD-set-other l i j v 0 (λ e. omega arith)
 
-pair-length : (ws : List ℕ) (k a b : ℕ) → length (pair ws k a b) ≡ length ws
-pair-length ws k a b = length-set (set ws k a) (k + 1) b ∙ length-set ws k a
-
-pair-first : (ws : List ℕ) (k a b : ℕ) → k + 1 < length ws → getD (pair ws k a b) k 0 ≡ a
-pair-first ws k a b h = getD-set-other (set ws k a) (k + 1) k b 0 (λ e. omega arith) ∙ getD-set-same ws k a 0 (omega arith)
-
-pair-second : (ws : List ℕ) (k a b : ℕ) → k + 1 < length ws → getD (pair ws k a b) (k + 1) 0 ≡ b
-pair-second ws k a b h = getD-set-same (set ws k a) (k + 1) b 0 (omega (arith, length-set ws k a))
-
-pair-other : (ws : List ℕ) (k a b j : ℕ) → (j ≡ k → ⊥) → (j ≡ k + 1 → ⊥) → getD (pair ws k a b) j 0 ≡ getD ws j 0
-pair-other ws k a b j p q = getD-set-other (set ws k a) (k + 1) j b 0 q ∙ getD-set-other ws k j a 0 p
+sets-in : (vs l : List ℕ) (i j k : ℕ) → j ≡ i + k → k < length vs → i + length vs ≤ length l → getD (sets l i vs) j 0 ≡ getD vs k 0
+sets-in [] l i j k e q h = absurd (omega arith)
+sets-in (v ∷ vs) l i j zero e q h = let z : j ≡ i = omega arith in rw z (sets-out vs (set l i v) (suc i) i (inl (omega arith)) ∙ getD-set-same l i v 0 (omega arith))
+sets-in (v ∷ vs) l i j (suc k) e q h = sets-in vs (set l i v) (suc i) j k (omega arith) (omega arith) (omega (arith, length-set l i v))
 
 -- nodes of the same numbers
 same : (m n : Node) → m .ect ≡ n .ect → m .«sum_of_processing_times» ≡ n .«sum_of_processing_times» → m .«ect_bar» ≡ n .«ect_bar» → m .«sum_of_processing_times_bar» ≡ n .«sum_of_processing_times_bar»
@@ -40,66 +38,58 @@ plain-same : (m n : plain.Node) → m .ect ≡ n .ect → m .«sum_of_processing
 plain-same m n p q = λ t. record { ect = p t; «sum_of_processing_times» = q t }
 
 -- a node of the theta tree stored
+abbrev pub pair : List ℕ → ℕ → ℕ → ℕ → List ℕ
+pair ws k a b = set (set ws k a) (k + 1) b
+
 pub plain-stored : (ws : List ℕ) (i : ℕ) (n : plain.Node) → i < NODES → length ws ≡ THETAWORDS
     → (plainAt (pair ws (2 * i) (n .ect) (n .«sum_of_processing_times»)) ≡ changed (plainAt ws) i n) × (length (pair ws (2 * i) (n .ect) (n .«sum_of_processing_times»)) ≡ THETAWORDS)
-plain-stored ws i n h l = (
+plain-stored ws i n h l = rw (add-one (2 * i)) (
   changed-is (plainAt ws) (plainAt out) i n
-      (plain-same (plainAt out i) n (pair-first ws (2 * i) a b (omega arith)) (pair-second ws (2 * i) a b (omega arith)))
-      (λ j ne. plain-same (plainAt out j) (plainAt ws j) (pair-other ws (2 * i) a b (2 * j) (λ e. ne (omega arith)) (λ e. omega arith))
-      (pair-other ws (2 * i) a b (2 * j + 1) (λ e. omega arith) (λ e. ne (omega arith)))),
-  pair-length ws (2 * i) a b ∙ l,
+      (plain-same (plainAt out i) n (sets-in vs ws (2 * i) (2 * i) 0 (omega arith) (omega arith) (omega arith)) (sets-in vs ws (2 * i) (2 * i + 1) 1 (omega arith) (omega arith) (omega arith)))
+      (λ j ne. plain-same (plainAt out j) (plainAt ws j) (other j (2 * j) ne (omega arith) (omega arith)) (other j (2 * j + 1) ne (omega arith) (omega arith))),
+  length-sets ws (2 * i) vs ∙ l,
 )
   where
-    a : ℕ
-    a = n .ect
-
-    b : ℕ
-    b = n .«sum_of_processing_times»
+    vs : List ℕ
+    vs = n .ect ∷ n .«sum_of_processing_times» ∷ []
 
     out : List ℕ
-    out = pair ws (2 * i) a b
+    out = sets ws (2 * i) vs
+
+    other : (j k : ℕ) → (j ≡ i → ⊥) → 2 * j ≤ k → k < 2 * j + 2 → getD out k 0 ≡ getD ws k 0
+    other j k ne lo hi = sets-out vs ws (2 * i) k (elim (decLt j i) [ yes q ↦ inl (omega arith) | no q ↦ inr (omega arith) ])
 
 -- a node of the theta-lambda tree stored
 abbrev pub quad : List ℕ → ℕ → Node → List ℕ
 quad ws k n = set (set (pair ws k (n .ect) (n .«sum_of_processing_times»)) (k + 2) (n .«ect_bar»)) (k + 3) (n .«sum_of_processing_times_bar»)
 
 pub stored : (ws : List ℕ) (i : ℕ) (n : Node) → i < NODES → length ws ≡ TREEWORDS → (nodeAt (quad ws (4 * i) n) ≡ changed (nodeAt ws) i n) × (length (quad ws (4 * i) n) ≡ TREEWORDS)
-stored ws i n h l = rw last (
+stored ws i n h l = rw is (
   changed-is (nodeAt ws) (nodeAt out) i n
-      (same (nodeAt out i) n (pair-other low (4 * i + 2) c d (4 * i) (λ e. omega arith) (λ e. omega arith) ∙ pair-first ws (4 * i) a b (omega arith))
-      (pair-other low (4 * i + 2) c d (4 * i + 1) (λ e. omega arith) (λ e. omega arith) ∙ pair-second ws (4 * i) a b (omega arith))
-      (pair-first low (4 * i + 2) c d (omega (arith, pair-length ws (4 * i) a b)))
-      (ap (λ (k : ℕ). getD out k 0) (omega arith) ∙ pair-second low (4 * i + 2) c d (omega (arith, pair-length ws (4 * i) a b))))
-      (λ j ne. same (nodeAt out j) (nodeAt ws j) (far (4 * j) (λ e. ne (omega arith)) (λ e. omega arith) (λ e. omega arith) (λ e. omega arith))
-      (far (4 * j + 1) (λ e. omega arith) (λ e. ne (omega arith)) (λ e. omega arith) (λ e. omega arith))
-      (far (4 * j + 2) (λ e. omega arith) (λ e. omega arith) (λ e. ne (omega arith)) (λ e. omega arith))
-      (far (4 * j + 3) (λ e. omega arith) (λ e. omega arith) (λ e. omega arith) (λ e. ne (omega arith)))),
-  pair-length low (4 * i + 2) c d ∙ pair-length ws (4 * i) a b ∙ l,
+      (same (nodeAt out i) n (here (4 * i) 0 (omega arith) (omega arith)) (here (4 * i + 1) 1 (omega arith) (omega arith)) (here (4 * i + 2) 2 (omega arith) (omega arith))
+      (here (4 * i + 3) 3 (omega arith) (omega arith)))
+      (λ j ne. same (nodeAt out j) (nodeAt ws j) (other j (4 * j) ne (omega arith) (omega arith)) (other j (4 * j + 1) ne (omega arith) (omega arith))
+      (other j (4 * j + 2) ne (omega arith) (omega arith)) (other j (4 * j + 3) ne (omega arith) (omega arith))),
+  length-sets ws (4 * i) vs ∙ l,
 )
   where
-    a : ℕ
-    a = n .ect
-
-    b : ℕ
-    b = n .«sum_of_processing_times»
-
-    c : ℕ
-    c = n .«ect_bar»
-
-    d : ℕ
-    d = n .«sum_of_processing_times_bar»
-
-    low : List ℕ
-    low = pair ws (4 * i) a b
+    vs : List ℕ
+    vs = n .ect ∷ n .«sum_of_processing_times» ∷ n .«ect_bar» ∷ n .«sum_of_processing_times_bar» ∷ []
 
     out : List ℕ
-    out = pair low (4 * i + 2) c d
+    out = sets ws (4 * i) vs
 
-    last : 4 * i + 3 ≡ 4 * i + 2 + 1
-    last = omega arith
+    is : quad ws (4 * i) n ≡ sets ws (4 * i) (n .ect ∷ n .«sum_of_processing_times» ∷ n .«ect_bar» ∷ n .«sum_of_processing_times_bar» ∷ [])
+    is =
+        let two : 4 * i + 2 ≡ suc (suc (4 * i)) = omega arith in
+        let three : 4 * i + 3 ≡ suc (suc (suc (4 * i))) = omega arith in
+        rw (add-one (4 * i), two, three)
 
-    far : (j : ℕ) → (j ≡ 4 * i → ⊥) → (j ≡ 4 * i + 1 → ⊥) → (j ≡ 4 * i + 2 → ⊥) → (j ≡ 4 * i + 2 + 1 → ⊥) → getD out j 0 ≡ getD ws j 0
-    far j p q r s = pair-other low (4 * i + 2) c d j r s ∙ pair-other ws (4 * i) a b j p q
+    here : (j k : ℕ) → j ≡ 4 * i + k → k < 4 → getD out j 0 ≡ getD vs k 0
+    here j k e q = sets-in vs ws (4 * i) j k e q (omega arith)
+
+    other : (j k : ℕ) → (j ≡ i → ⊥) → 4 * j ≤ k → k < 4 * j + 4 → getD out k 0 ≡ getD ws k 0
+    other j k ne lo hi = sets-out vs ws (4 * i) k (elim (decLt j i) [ yes q ↦ inl (omega arith) | no q ↦ inr (omega arith) ])
 
 -- and one whose other values are those of n already
 pub bars-stored : (ws : List ℕ) (i : ℕ) (n : Node) → i < NODES → length ws ≡ TREEWORDS → whitePart (nodeAt ws i) ≡ whitePart n

@@ -39,7 +39,7 @@ module _ (colour : ℕ → Leaf) (e p : ℕ → ℕ) where
     pub ect-bar : n .«ect_bar» ≡ leafRange.ect-bar w g e p a d
     pub sum-bar : n .«sum_of_processing_times_bar» ≡ leafRange.sum-bar w g e p a d
 
-  one : (a : ℕ) (c : Leaf) → colour a ≡ c → Holds (leafNode c (e a) (p a)) a 1
+  pub one : (a : ℕ) (c : Leaf) → colour a ≡ c → Holds (leafNode c (e a) (p a)) a 1
   one a empty z =
       let b = leafRange.blank w g e p a in
       let s = leafRange.no-leaf w g e p a 0 a (add-zero a) (ap inTheta z) (ap inLambda z) in

@@ -9,7 +9,7 @@ use native.Mathlib.Nat.{add-zero}
 use native.Mathlib.Decide.{ℕ-discrete}
 use Rattle.integers.proofs.Bools.{bool}
 use Rattle.scheduling.proofs.LeafRanges as leafRange
-use Rattle.scheduling.proofs.LeafRanges.{Blank, Join}
+use Rattle.scheduling.proofs.LeafRanges.{Join}
 use Rattle.trees.specs.declared.theta_lambda_node.Node.{Node}
 use Rattle.trees.specs.declared.theta_lambda_node.PDescent.the-variants.{Left, Right, Here, Nothing}
 use Rattle.trees.specs.declared.theta_lambda_node.EctBarDescent.the-variants as bar
@@ -24,7 +24,7 @@ use Rattle.trees.specs.Leaves as leaves
 use Rattle.trees.specs.Leaves.{Leaf, inTheta, inLambda, leafNode}
 use Rattle.trees.proofs.Heights.{once}
 use Rattle.trees.proofs.SearchSteps.{aroundOver, searchBy, rest, inner-is, leaf-search}
-use Rattle.trees.proofs.RangeNodes.{not-white, Holds, over-holds}
+use Rattle.trees.proofs.RangeNodes.{not-white, Holds, one, over-holds}
 
 module _ (colour : ℕ → Leaf) (e p : ℕ → ℕ) (lasts : (x : ℕ) → inLambda (colour x) ≡ true → 1 ≤ p x) where
   abbrev w : ℕ → Bool
@@ -181,23 +181,13 @@ module _ (colour : ℕ → Leaf) (e p : ℕ → ℕ) (lasts : (x : ℕ) → inLa
   leaf-ok : (a : ℕ) → LeafOk a (elim (gray (leaf a)) [ true ↦ some a | false ↦ none ])
   leaf-ok a = by (colour a) refl
     where
-      l0 : Blank w g e p a
-      l0 = leafRange.blank w g e p a
-
-      z0 : a + 0 ≡ a
-      z0 = add-zero a
-
       by : (c : Leaf) → colour a ≡ c → LeafOk a (elim (gray (leafNode c (e a) (p a))) [ true ↦ some a | false ↦ none ])
-      by leaves.empty z =
-          let l = leafRange.no-leaf w g e p a 0 a z0 (ap inTheta z) (ap inLambda z) in
-          rw gray-empty (record { by-sums = rw once (omega (arith, l0)); by-ects = rw once (omega (arith, l0)) })
-      by leaves.white z =
-          let l = leafRange.white w g e p a 0 a z0 (ap inTheta z) in
-          rw (gray-white (e a + p a) (p a)) (record { by-sums = rw once (omega (arith, l0)); by-ects = rw once (omega (arith, l0)) })
+      by leaves.empty z = let l = one colour e p a leaves.empty z in rw gray-empty (record { by-sums = rw once (omega arith); by-ects = rw once (omega arith) })
+      by leaves.white z = let l = one colour e p a leaves.white z in rw (gray-white (e a + p a) (p a)) (record { by-sums = rw once (omega arith); by-ects = rw once (omega arith) })
       by leaves.gray z =
-          let l = leafRange.gray w g e p a 0 a z0 (ap inTheta z) (ap inLambda z) in
+          let l = one colour e p a leaves.gray z in
           let f : GrayBelow a 1 a = record { gray = ap inLambda z; white = ap inTheta z; from = omega arith; to = omega arith } in
-          rw (gray-gray (e a + p a) (p a) (λ q. omega (arith, lasts a (ap inLambda z)))) (record { by-sums = rw once (f, omega (arith, l0)); by-ects = rw once (f, omega (arith, l0, through-leaf a)) })
+          rw (gray-gray (e a + p a) (p a) (λ q. omega (arith, lasts a (ap inLambda z)))) (record { by-sums = rw once (f, omega arith); by-ects = rw once (f, omega (arith, through-leaf a)) })
 
   -- a leaf of a half is one of the whole
   left-in : (h a x : ℕ) → GrayBelow a (width h) x → GrayBelow a (width (suc h)) x

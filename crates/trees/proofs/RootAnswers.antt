@@ -60,21 +60,16 @@ module _ (J : Tasks natural) (ok : Proper J) (estOrder : List ℕ) (rk : ByEarli
 
   -- the scan of a set with a task in it, and of none
   scan-some : (S : TaskSet) (k : ℕ) → In J S k → 1 ≤ scan J T rank S (J .count)
-  scan-some S k m = attains (scan-is J T rank ok rk S (k, m) .holds)
-    where
-      attains : EstPlusP J S (scan J T rank S (J .count)) → 1 ≤ scan J T rank S (J .count)
-      attains f =
-          let (i, im, _) = f .est .holds in
-          omega (arith, f .sum, processing-less J (f .part) i im, ok .lasts i (im .small))
+  scan-some S k m =
+      let f = scan-is J T rank ok rk S (k, m) .holds in
+      let (i, im, _) = f .est .holds in
+      omega (arith, f .sum, processing-less J (f .part) i im, ok .lasts i (im .small))
 
   scan-none : (S : TaskSet) → Empty S (J .count) → scan J T rank S (J .count) ≡ 0
-  scan-none S nil = by (attained J T rank ok rk S (J .count) (omega arith))
-    where
-      by : Reached J T rank ok rk S (J .count) → scan J T rank S (J .count) ≡ 0
-      by (inl z) = z .0
-      by (inr f) =
-          let (i, im, _) = f .est .holds in
-          clash ((and-in J T rank ok rk S S (J .count) i (f .within i im)) .1) (nil i (im .small))
+  scan-none S nil = elim (attained J T rank ok rk S (J .count) (omega arith)) [
+    | inl z ↦ z .0
+    | inr f ↦ (let (i, im, _) = f .est .holds in clash ((and-in J T rank ok rk S S (J .count) i (f .within i im)) .1) (nil i (im .small)))
+  ]
 
   -- a sum over the leaves of the tasks of S
   module _ (S : TaskSet) (f : ℕ → ℕ) (none : f 0 ≡ 0) (in-S : (d : ℕ) → d < J .count → S (T d) ≡ true → f (suc d) ≡ f d + p d)

@@ -2,7 +2,7 @@
 use mathlib.Core.Path.{_≡_, refl, sym, ap, ap₂, subst, _∙_}
 use mathlib.Core.Bool.{true, not}
 use mathlib.Core.List.{List}
-use Prim.Native.Nat.{ℕ, zero, suc, _+_, _*_, _≤_, _<_}
+use Prim.Native.Nat.{ℕ, _+_, _*_, _≤_, _<_}
 use native.Mathlib.Omega.{arith}
 use lib.Dec.{eqb}
 use lib.ListN.{length, getD, set, length-set, replicate, length-replicate}
@@ -11,7 +11,7 @@ use Rattle.integers.proofs.FilledLists.{getD-fresh}
 use Rattle.scheduling.specs.Scheduling.{natural, Tasks}
 use Rattle.trees.specs.declared.theta_lambda_node.Node.{Node}
 use Rattle.trees.specs.declared.theta_node.Node as plain
-use Rattle.trees.specs.Nodes.{emptyOf, joinOf, plainOf, plainJoinOf}
+use Rattle.trees.specs.Nodes.{emptyOf, joinOf, plainEmptyOf, plainOf, plainJoinOf}
 use Rattle.trees.specs.NodeBounds.{Fair, size, PlainFair, plainSize}
 use Rattle.trees.specs.Descents.{gray}
 use Rattle.trees.proofs.GrayLeaves.{gray-empty}
@@ -26,7 +26,7 @@ use Rattle.trees.specs.Leaves as leaves
 use Rattle.trees.specs.Leaves.{Leaf, empty, inTheta, leafNode, taskAt, startAt, durationAt, whiteAt, grayAt, root, responsible, theta}
 use Rattle.trees.specs.Trees.{plainLeaf, plainLeaves, Limited, IsTree, IsPlainTree}
 use Rattle.trees.proofs.Heights.{enough, room, root-height}
-use Rattle.trees.proofs.ArrayTrees.{over-leaf, over-join, own-leaves, own-tree, root-is}
+use Rattle.trees.proofs.ArrayTrees.{over-both, own-leaves, own-tree, root-is}
 use Rattle.trees.proofs.NodeWords.{blank-nodes, plain-blank-nodes}
 use Rattle.trees.proofs.LeafColours.{white-is, gray-white, past-empty, bounded, plain-leaves, plain-bounded, coloured}
 use Rattle.trees.proofs.WhiteParts.{join-white}
@@ -61,10 +61,12 @@ module _ {A : Type 0} (size : A → ℕ) (Fair : A → Type 0) (join : A → A �
 
 -- a node without its gray tasks is the one over leaves without theirs
 plain-over : (leaf : ℕ → Node) (h a : ℕ) → nodeOver plainJoinOf (λ k. whitePart (leaf k)) h a ≡ whitePart (nodeOver joinOf leaf h a)
-plain-over leaf zero a = over-leaf plainJoinOf (λ k. whitePart (leaf k)) a ∙ sym (ap whitePart (over-leaf joinOf leaf a))
-plain-over leaf (suc h) a =
-    over-join plainJoinOf (λ k. whitePart (leaf k)) h a ∙ ap₂ plainJoinOf (plain-over leaf h a) (plain-over leaf h (a + width h))
-    ∙ sym (ap whitePart (over-join joinOf leaf h a) ∙ join-white (nodeOver joinOf leaf h a) (nodeOver joinOf leaf h (a + width h)))
+plain-over leaf = over-both (λ p n. p ≡ whitePart n) (λ l′ r′ l r x y. ap₂ plainJoinOf x y ∙ sym (join-white l r)) (λ k. whitePart (leaf k)) leaf (λ k. refl)
+
+-- a new tree: all nodes are the empty one, which is the join of two
+blank-tree : {A : Type 0} (join : A → A → A) (inner : ℕ) (leaf at : ℕ → A) (blank : A) → join blank blank ≡ blank → ((i : ℕ) → at i ≡ blank) → ((k : ℕ) → leaf k ≡ blank) → TreeOf join inner leaf at
+blank-tree join inner leaf at blank z all each =
+    record { joins = λ i q. all i ∙ sym (ap₂ join (all (2 * i + 1)) (all (2 * i + 2)) ∙ z); leaves = λ k. all (inner + k) ∙ sym (each k) }
 
 module _ (J : Tasks natural) (estOrder : List ℕ) where
   abbrev leaf-node : Leaf → ℕ → Node
@@ -80,10 +82,8 @@ module _ (J : Tasks natural) (estOrder : List ℕ) where
   pub new-tree : (inner : ℕ) (words : List ℕ) → words ≡ replicate TREEWORDS 0 → inner + 1 ≡ width (heightFor (J .count)) → IsTree J estOrder (replicate (J .count) empty) inner words
   unfolding joinOf
   new-tree inner words z e = rw z (record {
-    tree = record {
-      joins = λ i q. blank-nodes i ∙ sym (ap₂ joinOf (blank-nodes (2 * i + 1)) (blank-nodes (2 * i + 2)));
-      leaves = λ k. blank-nodes (inner + k) ∙ sym (ap (λ (c : Leaf). leaf-node c k) (all-empty (J .count) k));
-    };
+    tree = blank-tree joinOf inner (leaves.leaves J estOrder (replicate (J .count) empty)) (nodeAt (replicate TREEWORDS 0)) emptyOf refl blank-nodes
+        (λ k. ap (λ (c : Leaf). leaf-node c k) (all-empty (J .count) k));
     words-length = refl;
     complete = e;
     colours = length-replicate (J .count) empty;
@@ -92,10 +92,8 @@ module _ (J : Tasks natural) (estOrder : List ℕ) where
   pub new-plain-tree : (inner : ℕ) (words : List ℕ) → words ≡ replicate THETAWORDS 0 → inner + 1 ≡ width (heightFor (J .count)) → IsPlainTree J estOrder (replicate (J .count) empty) inner words
   unfolding plainJoinOf
   new-plain-tree inner words z e = rw z (record {
-    tree = record {
-      joins = λ i q. plain-blank-nodes i ∙ sym (ap₂ plainJoinOf (plain-blank-nodes (2 * i + 1)) (plain-blank-nodes (2 * i + 2)));
-      leaves = λ k. plain-blank-nodes (inner + k) ∙ sym (ap (λ (c : Leaf). plain-node c k) (all-empty (J .count) k));
-    };
+    tree = blank-tree plainJoinOf inner (plainLeaves J estOrder (replicate (J .count) empty)) (plainAt (replicate THETAWORDS 0)) plainEmptyOf refl plain-blank-nodes
+        (λ k. ap (λ (c : Leaf). plain-node c k) (all-empty (J .count) k));
     words-length = refl;
     complete = e;
     colours = length-replicate (J .count) empty;

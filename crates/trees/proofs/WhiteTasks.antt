@@ -35,12 +35,12 @@ pub theta-same : (white white′ : ℕ → Bool) (task task′ : ℕ → ℕ) (a
     → thetaOf white task a d ≡ thetaOf white′ task′ a d
 theta-same white white′ task task′ a zero same = theta-none white task a ∙ sym (theta-none white′ task′ a)
 theta-same white white′ task task′ a (suc d) same =
-    by (theta-same white white′ task task′ (suc a) d (λ k lo hi. same k (omega arith) (omega arith))) (same a (omega arith) (omega arith)) (bool (white a))
-  where
-    by : thetaOf white task (suc a) d ≡ thetaOf white′ task′ (suc a) d → (white a ≡ white′ a) × (task a ≡ task′ a) → (white a ≡ true) ⊎ (white a ≡ false)
-        → thetaOf white task a (suc d) ≡ thetaOf white′ task′ a (suc d)
-    by ih (w, t) (inl y) = theta-white white task a d y ∙ ap₂ (λ (x : ℕ) (r : List ℕ). x ∷ r) t ih ∙ sym (theta-white white′ task′ a d (sym w ∙ y))
-    by ih (w, t) (inr y) = theta-skip white task a d y ∙ ih ∙ sym (theta-skip white′ task′ a d (sym w ∙ y))
+    let ih = theta-same white white′ task task′ (suc a) d (λ k lo hi. same k (omega arith) (omega arith)) in
+    let (w, t) = same a (omega arith) (omega arith) in
+    elim (bool (white a)) [
+      | inl y ↦ theta-white white task a d y ∙ ap₂ (λ (x : ℕ) (r : List ℕ). x ∷ r) t ih ∙ sym (theta-white white′ task′ a d (sym w ∙ y))
+      | inr y ↦ theta-skip white task a d y ∙ ih ∙ sym (theta-skip white′ task′ a d (sym w ∙ y))
+    ]
 
 -- what stands in the list ------------------------------------------------------------------------------------------------------
 
@@ -48,12 +48,11 @@ module _ (white : ℕ → Bool) (task : ℕ → ℕ) where
   -- the task of a white leaf
   pub theta-in : (a d j k : ℕ) → a ≤ j → j < a + d → white j ≡ true → task j ≡ k → has (thetaOf white task a d) k ≡ true
   theta-in a zero j k lo hi y z = absurd (omega arith)
-  theta-in a (suc d) j k lo hi y z = by (ℕ-discrete a j) (bool (white a)) (λ q. theta-in (suc a) d j k q (omega arith) y z)
-    where
-      by : Dec (a ≡ j) → (white a ≡ true) ⊎ (white a ≡ false) → (suc a ≤ j → has (thetaOf white task (suc a) d) k ≡ true) → has (thetaOf white task a (suc d)) k ≡ true
-      by (yes e) v ih = rw (theta-white white task a d (ap white e ∙ y), ap task e ∙ z) (has-here k (thetaOf white task (suc a) d))
-      by (no e) (inl v) ih = rw (theta-white white task a d v) (has-later (task a) k (thetaOf white task (suc a) d) (ih (omega arith)))
-      by (no e) (inr v) ih = rw (theta-skip white task a d v) (ih (omega arith))
+  theta-in a (suc d) j k lo hi y z = elim (ℕ-discrete a j) [
+    | yes e ↦ rw (theta-white white task a d (ap white e ∙ y), ap task e ∙ z) (has-here k (thetaOf white task (suc a) d))
+    | no e ↦ (let ih = theta-in (suc a) d j k (omega arith) (omega arith) y z in
+        elim (bool (white a)) [ inl v ↦ rw (theta-white white task a d v) (has-later (task a) k (thetaOf white task (suc a) d) ih) | inr v ↦ rw (theta-skip white task a d v) ih ])
+  ]
 
   -- and no other
   abbrev pub Leafs : ℕ → ℕ → ℕ → Type 0

@@ -17,9 +17,6 @@ Inv-loop chosen est durations n order ect₀ x₀ ect x = (x ≤ n) × ((J : Tas
 abbrev μ-loop : tie.MeasureT-loop
 μ-loop chosen est durations n order ect₀ x₀ ect x = n - x
 
-loop-holds : tie.Need-loop-holds Inv-loop μ-loop
-loop-holds c = (omega arith, λ J Ω h. none-done J Ω)
-
 -- a turn of the loop: where the function began, and the place and the task of the turn
 abbrev start : tie.In-loop Inv-loop μ-loop → tie.Start Inv-loop μ-loop
 start c = c .before .before .before .before
@@ -32,15 +29,6 @@ place c = omega (arith, inside c, start c .pre .2 .few)
 
 task : (c : tie.In-loop Inv-loop μ-loop) → getD (c .before .before .sort-numbers .last .0) (c .before .loop .x) 0 < TASKS
 task c = task-known (start c .pre .2) (c .before .before .sort-numbers .ensures) (c .before .loop .x) (inside c)
-
-mul-i : tie.Need-mul-i Inv-loop μ-loop
-mul-i c = omega (arith, place c)
-
-mul-completed : tie.Need-mul-completed Inv-loop μ-loop
-mul-completed c = omega (arith, task (c .before))
-
-mul-completed-2 : tie.Need-mul-completed-2 Inv-loop μ-loop
-mul-completed-2 c = omega (arith, task (c .before .before))
 
 completed-requires : tie.Need-completed-requires Inv-loop μ-loop
 completed-requires c κs y =
@@ -65,6 +53,7 @@ pub theta-ect-spec : {M : Type 1} → statement M
 theta-ect-spec =
     tie.close
     (tie.spec
-    Inv-loop μ-loop (λ c κs. search needs) loop-holds mul-i (λ c. place c) (λ c. task c) mul-completed
-    (λ c. task (c .before)) mul-completed-2 (λ c. task (c .before .before)) completed-requires
+    Inv-loop μ-loop (λ c κs. search needs) (λ c. (omega arith, λ J Ω h. none-done J Ω)) (λ c. omega (arith, place c))
+    (λ c. place c) (λ c. task c) (λ c. omega (arith, task (c .before))) (λ c. task (c .before))
+    (λ c. omega (arith, task (c .before .before))) (λ c. task (c .before .before)) completed-requires
     (λ c. search needs) (λ c. search needs) loop-again (λ c κs. search needs) returns)

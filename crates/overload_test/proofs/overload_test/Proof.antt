@@ -24,9 +24,6 @@ returns c =
     let a = n .before .before .before .args in
     is-refused (a .t1) (a .earliest .now) (a .latest .now) (a .bars-fit) _ (λ z. c .if1 .taken (n .input-refusal .ensures ∙ z)) (ap refusedBy (n .input-refusal .ensures))
 
-test-accepted-requires : tie.Need-test-accepted-requires
-test-accepted-requires c κs = passed c .0
-
 returns-2 : tie.Need-returns-2
 returns-2 c =
     let s = c .before .before .before .before .before in
@@ -34,4 +31,4 @@ returns-2 c =
     tested (a .t1) (a .earliest .now) (a .latest .now) (a .bars-fit) _ (passed (c .before) .0) (passed (c .before) .1) (long s) (c .test-accepted .ensures)
 
 pub overload-test-spec : {M : Type 1} → statement M
-overload-test-spec = tie.close (tie.spec (λ c κs. search needs) returns test-accepted-requires returns-2)
+overload-test-spec = tie.close (tie.spec (λ c κs. search needs) returns (λ c κs. passed c .0) returns-2)

@@ -50,41 +50,11 @@ added c f =
 loop-holds : tie.Need-loop-holds Inv-loop μ-loop
 loop-holds c = record { readable = c .pre; tree = λ f. none-shown f; answer = λ f. all-answer f; small = omega arith }
 
-mul-i : tie.Need-mul-i Inv-loop μ-loop
-mul-i c = omega (arith, inside c, c .before .loop .inv .readable .held .few)
-
-element-copy-out-i : tie.Need-element-copy-out-i Inv-loop μ-loop
-element-copy-out-i c = omega (arith, inside c, c .before .loop .inv .readable .held .few)
-
-leaf-of-requires : tie.Need-leaf-of-requires Inv-loop μ-loop
-leaf-of-requires c κs = known (c .before)
-
-mul-exceeds : tie.Need-mul-exceeds Inv-loop μ-loop
-mul-exceeds c = omega (arith, known (c .before .before))
-
-element-copy-out-exceeds : tie.Need-element-copy-out-exceeds Inv-loop μ-loop
-element-copy-out-exceeds c = known (c .before .before)
-
-mul-t18 : tie.Need-mul-t18 Inv-loop μ-loop
-mul-t18 c = omega (arith, known (c .before .before .before))
-
-element-copy-out-t25 : tie.Need-element-copy-out-t25 Inv-loop μ-loop
-element-copy-out-t25 c = known (c .before .before .before)
-
 add-requires : tie.Need-add-requires Inv-loop μ-loop
 add-requires c κs =
     let at = c .before .before .before .before .before in
     let v = at .before .loop .inv in
     (shown (v .readable) (at .before .loop .k) (v .tree (v .readable)), has-task (v .readable) (at .before .loop .k) (inside at) (c .before .before .before .leaf-of .ensures))
-
-add-k : tie.Need-add-k Inv-loop μ-loop
-add-k c = omega (arith, inside (turn c))
-
-mul-exceeds-2 : tie.Need-mul-exceeds-2 Inv-loop μ-loop
-mul-exceeds-2 c = omega (arith, known (turn (c .before .before)))
-
-element-copy-out-exceeds-2 : tie.Need-element-copy-out-exceeds-2 Inv-loop μ-loop
-element-copy-out-exceeds-2 c = known (turn (c .before .before))
 
 -- the test is the definition's
 tested : (c : tie.After-exceeds Inv-loop μ-loop) → let at = turn (c .before .before .before .before) in let a = at .before .before .args in
@@ -92,8 +62,8 @@ tested : (c : tie.After-exceeds Inv-loop μ-loop) → let at = turn (c .before .
 tested c f =
     let at = turn (c .before .before .before .before) in
     let k = at .before .loop .k in
-    c .exceeds .ensures ∙ test-is f k (inside at) (momentOf (c .before .before .ect .result))
-    (c .before .before .ect .ensures (at .before .before .args .inner) (shown f (k + 1) (added (c .before .before .before .before) f)))
+    let t = added (c .before .before .before .before) f in
+    c .exceeds .ensures ∙ test-is f k (inside at) t (momentOf (c .before .before .ect .result)) (c .before .before .ect .ensures (at .before .before .args .inner) (shown f (k + 1) t))
 
 returns : tie.Need-returns Inv-loop μ-loop
 returns c = λ f.
@@ -119,6 +89,10 @@ pub read-tasks-spec : {M : Type 1} → statement M
 read-tasks-spec =
     tie.close
     (tie.spec
-    Inv-loop μ-loop loop-holds mul-i element-copy-out-i leaf-of-requires mul-exceeds element-copy-out-exceeds mul-t18
-    element-copy-out-t25 add-requires add-k (λ c κs. search needs) mul-exceeds-2 element-copy-out-exceeds-2
+    Inv-loop μ-loop loop-holds (λ c. omega (arith, inside c, c .before .loop .inv .readable .held .few))
+    (λ c. omega (arith, inside c, c .before .loop .inv .readable .held .few)) (λ c κs. known (c .before))
+    (λ c. omega (arith, known (c .before .before))) (λ c. known (c .before .before))
+    (λ c. omega (arith, known (c .before .before .before))) (λ c. known (c .before .before .before)) add-requires
+    (λ c. omega (arith, inside (turn c))) (λ c κs. search needs)
+    (λ c. omega (arith, known (turn (c .before .before)))) (λ c. known (turn (c .before .before)))
     (λ c κs. search needs) returns (λ c. search needs) loop-again returns-2)

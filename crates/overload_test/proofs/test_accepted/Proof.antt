@@ -49,9 +49,6 @@ completions-requires c κs =
           (c .before .before .before .moments-of2 .ensures),
     )
 
-read-tasks-requires : tie.Need-read-tasks-requires
-read-tasks-requires c κs = ready (c .before .before .before .before .before .before .before)
-
 returns : tie.Need-returns
 returns c = c .read-tasks .ensures (ready (c .before .before .before .before .before .before .before .before))
 
@@ -60,4 +57,4 @@ test-accepted-spec =
     tie.close
     (tie.spec
     (λ c κs. search needs) (λ c κs. search needs) completions-requires (λ c κs. search needs) (λ c κs. search needs)
-    (λ c κs. search needs) read-tasks-requires returns)
+    (λ c κs. search needs) (λ c κs. ready (c .before .before .before .before .before .before .before)) returns)

@@ -74,9 +74,6 @@ write-bounds-requires c κs =
       s .pre .2,
     )
 
-write-atom-requires : tie.Need-write-atom-requires
-write-atom-requires c κs = (room (c .before .before), start (walk (c .before .before .before .before)) .pre .0 .known .task)
-
 add-result : tie.Need-add-result
 add-result c = omega (arith, room (c .before .before .before .before), stored-length (c .before .before .before .before .write-bounds .ensures))
 
@@ -99,4 +96,6 @@ create-propagation-explanation-spec =
     (tie.spec
     (λ c. search needs) (λ c. search needs) (λ c. search needs) (λ c. search needs) preceding-requires
     of-leaf-requires (λ c κs. search needs) (λ c. omega (arith, numbers c)) (λ c. omega (arith, numbers c))
-    (λ c. omega (arith, numbers c)) write-bounds-requires write-atom-requires add-result (λ c. search needs) returns)
+    (λ c. omega (arith, numbers c)) write-bounds-requires
+    (λ c κs. (room (c .before .before), start (walk (c .before .before .before .before)) .pre .0 .known .task))
+    add-result (λ c. search needs) returns)

@@ -49,29 +49,11 @@ sum c = let a = start c .args in omega (
   given (c .before) .total,
 )
 
-loop-holds : tie.Need-loop-holds Inv-loop μ-loop
-loop-holds c = sets-out (given c .total) (given c .stops) (next-again (c .next-in-theta .ensures))
-
-of-leaf-requires : tie.Need-of-leaf-requires Inv-loop μ-loop
-of-leaf-requires c κs = (omega (arith, c .loop .inv .small), task c .start)
-
-add-if1 : tie.Need-add-if1 Inv-loop μ-loop
-add-if1 c = omega (arith, c .of-leaf .ensures, sum (c .before))
-
-of-leaf-requires-2 : tie.Need-of-leaf-requires-2 Inv-loop μ-loop
-of-leaf-requires-2 c κs = (omega (arith, c .before .before .loop .inv .small), task (c .before .before) .duration)
-
-sub-p-omega-prime : tie.Need-sub-p-omega-prime Inv-loop μ-loop
-sub-p-omega-prime c = omega (arith, c .of-leaf2 .ensures, enough-there (c .before .before .before .loop .inv))
-
-add-t15 : tie.Need-add-t15 Inv-loop μ-loop
-add-t15 c = omega (arith, c .before .before .before .before .loop .inv .small)
-
 next-in-theta-requires-2 : tie.Need-next-in-theta-requires-2 Inv-loop μ-loop
 next-in-theta-requires-2 c κs = let at = c .before .before .before .before in (omega (arith, at .loop .inv .small), start at .pre .2, start at .pre .3)
 
 loop-less : tie.Need-loop-less Inv-loop μ-loop
-loop-less c = let at = c .before .before .before .before .before in omega (arith, at .loop .inv .small, c .next-in-theta2 .ensures .from)
+loop-less c = omega (arith, c .before .before .before .before .before .loop .inv .small, c .next-in-theta2 .ensures .from)
 
 loop-again : tie.Need-loop-again Inv-loop μ-loop
 loop-again c =
@@ -89,5 +71,11 @@ pub attaining-spec : {M : Type 1} → statement M
 attaining-spec =
     tie.close
     (tie.spec
-    Inv-loop μ-loop (λ c κs. search needs) loop-holds of-leaf-requires add-if1 of-leaf-requires-2 sub-p-omega-prime add-t15
-    next-in-theta-requires-2 loop-less loop-again returns)
+    Inv-loop μ-loop (λ c κs. search needs)
+    (λ c. sets-out (given c .total) (given c .stops) (next-again (c .next-in-theta .ensures)))
+    (λ c κs. (omega (arith, c .loop .inv .small), task c .start))
+    (λ c. omega (arith, c .of-leaf .ensures, sum (c .before)))
+    (λ c κs. (omega (arith, c .before .before .loop .inv .small), task (c .before .before) .duration))
+    (λ c. omega (arith, c .of-leaf2 .ensures, enough-there (c .before .before .before .loop .inv)))
+    (λ c. omega (arith, c .before .before .before .before .loop .inv .small)) next-in-theta-requires-2 loop-less
+    loop-again returns)

@@ -38,29 +38,14 @@ sum c = let a = start c .args in omega (
 loop-holds : tie.Need-loop-holds Inv-loop μ-loop
 loop-holds c = sets-out (c .before .before .before .pre .0 .total) (c .before .before .before .pre .0 .stops) (c .next-in-theta .ensures)
 
-of-leaf-requires : tie.Need-of-leaf-requires Inv-loop μ-loop
-of-leaf-requires c κs = (omega (arith, c .loop .inv .small), task c .start)
-
-add-if1 : tie.Need-add-if1 Inv-loop μ-loop
-add-if1 c = omega (arith, c .min .ensures, c .before .of-leaf .ensures, sum (c .before .before))
-
-add-if1-2 : tie.Need-add-if1-2 Inv-loop μ-loop
-add-if1-2 c = omega (arith, c .min .ensures, c .before .of-leaf .ensures, sum (c .before .before))
-
 of-leaf-requires-2 : tie.Need-of-leaf-requires-2 Inv-loop μ-loop
 of-leaf-requires-2 c κs = (omega (arith, c .before .before .before .loop .inv .small), task (c .before .before .before) .duration)
-
-sub-p-omega : tie.Need-sub-p-omega Inv-loop μ-loop
-sub-p-omega c = omega (arith, c .of-leaf2 .ensures, enough-there (c .before .before .before .before .loop .inv))
-
-add-t19 : tie.Need-add-t19 Inv-loop μ-loop
-add-t19 c = let at = c .before .before .before .before .before in omega (arith, at .loop .inv .small)
 
 next-in-theta-requires-2 : tie.Need-next-in-theta-requires-2 Inv-loop μ-loop
 next-in-theta-requires-2 c κs = let at = c .before .before .before .before .before in (omega (arith, at .loop .inv .small), start at .pre .1, start at .pre .2)
 
 loop-less : tie.Need-loop-less Inv-loop μ-loop
-loop-less c = let at = c .before .before .before .before .before .before in omega (arith, at .loop .inv .small, c .next-in-theta2 .ensures .from)
+loop-less c = omega (arith, c .before .before .before .before .before .before .loop .inv .small, c .next-in-theta2 .ensures .from)
 
 loop-again : tie.Need-loop-again Inv-loop μ-loop
 loop-again c =
@@ -76,5 +61,9 @@ pub preceding-spec : {M : Type 1} → statement M
 preceding-spec =
     tie.close
     (tie.spec
-    Inv-loop μ-loop (λ c κs. search needs) loop-holds of-leaf-requires (λ c κs. search needs) add-if1 add-if1-2
-    of-leaf-requires-2 sub-p-omega add-t19 next-in-theta-requires-2 loop-less loop-again returns)
+    Inv-loop μ-loop (λ c κs. search needs) loop-holds (λ c κs. (omega (arith, c .loop .inv .small), task c .start))
+    (λ c κs. search needs) (λ c. omega (arith, c .min .ensures, c .before .of-leaf .ensures, sum (c .before .before)))
+    (λ c. omega (arith, c .min .ensures, c .before .of-leaf .ensures, sum (c .before .before))) of-leaf-requires-2
+    (λ c. omega (arith, c .of-leaf2 .ensures, enough-there (c .before .before .before .before .loop .inv)))
+    (λ c. omega (arith, c .before .before .before .before .before .loop .inv .small)) next-in-theta-requires-2
+    loop-less loop-again returns)

@@ -75,32 +75,14 @@ loop-holds c =
           (next-same (whiteIn (a .nodes .now) (a .inner)) (taskIn (a .reverse-mapping .now)) next) (c .before .before .pre .0)),
     )
 
-write-atom-requires : tie.Need-write-atom-requires Inv-loop μ-loop
-write-atom-requires c κs = (omega (arith, room (c .before)), task (c .before) .task)
-
-add-write-atom : tie.Need-add-write-atom Inv-loop μ-loop
-add-write-atom c = omega (arith, room (c .before .before .before .before))
-
-mul-write-atom : tie.Need-mul-write-atom Inv-loop μ-loop
-mul-write-atom c = omega (arith, task (c .before .before .before .before))
-
-shared-slice-read-write-atom : tie.Need-shared-slice-read-write-atom Inv-loop μ-loop
-shared-slice-read-write-atom c = task (c .before .before .before .before .before) .duration
-
-sub-write-atom : tie.Need-sub-write-atom Inv-loop μ-loop
-sub-write-atom c = task (c .before .before .before .before .before) .short
-
 write-atom-requires-2 : tie.Need-write-atom-requires-2 Inv-loop μ-loop
 write-atom-requires-2 c κs = (omega (arith, length-first (c .before .before .before), room (c .before .before .before .before .before)), task (c .before .before .before .before .before) .task)
-
-next-in-theta-requires-2 : tie.Need-next-in-theta-requires-2 Inv-loop μ-loop
-next-in-theta-requires-2 c κs = search needs
 
 add-at : tie.Need-add-at Inv-loop μ-loop
 add-at c = let made = c .before .before .before .before .before .before .before in omega (arith, room (turn made))
 
-loop-less : tie.Need-loop-less Inv-loop μ-loop
-loop-less c = omega (arith, c .next-in-theta2 .ensures .from)
+next-in-theta-requires-2 : tie.Need-next-in-theta-requires-2 Inv-loop μ-loop
+next-in-theta-requires-2 c κs = search needs
 
 loop-again : tie.Need-loop-again Inv-loop μ-loop
 loop-again c =
@@ -116,9 +98,6 @@ loop-again c =
           (next-same (white w) (tasks w) next)
           (written-more (here (turn made)) (made .write-atom .ensures) (c .before .before .before .write-atom2 .ensures)),
     )
-
-same-length : tie.Need-same-length Inv-loop μ-loop
-same-length c = c .before .before .loop .inv .2 .size
 
 returns : tie.Need-returns Inv-loop μ-loop
 returns c =
@@ -137,6 +116,11 @@ pub write-within-spec : {M : Type 1} → statement M
 write-within-spec =
     tie.close
     (tie.spec
-    Inv-loop μ-loop (λ c κs. search needs) loop-holds (λ c κs. search needs) write-atom-requires add-write-atom
-    mul-write-atom shared-slice-read-write-atom sub-write-atom write-atom-requires-2 (λ c. search needs)
-    next-in-theta-requires-2 add-at loop-less loop-again same-length returns)
+    Inv-loop μ-loop (λ c κs. search needs) loop-holds (λ c κs. search needs)
+    (λ c κs. (omega (arith, room (c .before)), task (c .before) .task))
+    (λ c. omega (arith, room (c .before .before .before .before)))
+    (λ c. omega (arith, task (c .before .before .before .before)))
+    (λ c. task (c .before .before .before .before .before) .duration)
+    (λ c. task (c .before .before .before .before .before) .short) write-atom-requires-2 (λ c. search needs)
+    next-in-theta-requires-2 add-at (λ c. omega (arith, c .next-in-theta2 .ensures .from)) loop-again
+    (λ c. c .before .before .loop .inv .2 .size) returns)

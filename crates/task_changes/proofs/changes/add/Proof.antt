@@ -36,9 +36,6 @@ returns c =
 nat-of-requires : tie.Need-nat-of-requires
 nat-of-requires c κs = let s = c .before .before .before .before in subst (λ (z : ℤ). pos 0 ≤ℤ z) (sym (back (s .fits .duration))) (not-negative (s .args .duration) (passed c .lasts))
 
-add-sum : tie.Need-add-sum
-add-sum c = record { fits = omega (arith, passed (c .before .before) .fits, more-is (c .before)) }
-
 returns-2 : tie.Need-returns-2
 returns-2 c =
     let s = c .before .before .before .before .before .before in
@@ -52,4 +49,5 @@ add-spec =
     (tie.spec
     (λ c κs. search needs) returns nat-of-requires
     (λ c. record { fits = omega (arith, passed (c .before .before) .room) }) (λ c. passed (c .before .before) .room)
-    add-sum (λ c. record { fits = omega (arith, passed (c .before .before) .room) }) returns-2)
+    (λ c. record { fits = omega (arith, passed (c .before .before) .fits, more-is (c .before)) })
+    (λ c. record { fits = omega (arith, passed (c .before .before) .room) }) returns-2)

@@ -70,16 +70,8 @@ returns-5 c =
     let start = c .before .before .before .before .before .before .before in
     let a = start .args in
     let three = first-three (c .before .before) in
-    sym (accepts (addTests (lent start) (a .duration)) (
-      three .0,
-      (
-        three .1 .0,
-        (
-          three .1 .1 .0,
-          (le-leb (a .total + durationOf (a .duration)) DURATIONS (omega (arith, c .if4 .left, more-is (c .before), fits (c .before .before .before .before .before))), tt),
-        ),
-      ),
-    ))
+    let fit = le-leb (a .total + durationOf (a .duration)) DURATIONS (omega (arith, c .if4 .left, more-is (c .before), fits (c .before .before .before .before .before))) in
+    sym (accepts (addTests (lent start) (a .duration)) (three .0, (three .1 .0, (three .1 .1 .0, (fit, tt)))))
 
 pub add-refusal-spec : {M : Type 1} → statement M
 add-refusal-spec =

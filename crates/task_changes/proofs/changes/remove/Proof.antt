@@ -23,12 +23,6 @@ returns c =
     let number = c .before .remove-refusal .ensures in
     remove-refused (a .t1) (a .task) _ (λ z. c .if1 .taken (number ∙ z)) (ap (λ (x : Change). record { «record» = a .t1; answer = x }) (ap Refused number))
 
-mul-less : tie.Need-mul-less
-mul-less c = let p = passed c in record { fits = omega (arith, p .there, p .lawful .few) }
-
-element-copy-out-less : tie.Need-element-copy-out-less
-element-copy-out-less c = let p = passed c in omega (arith, p .there, p .lawful .few)
-
 without-task-requires : tie.Need-without-task-requires
 without-task-requires c κs = (passed (c .before .before .before) .lawful .few, long (c .before .before .before .before .before .before .before))
 
@@ -49,5 +43,6 @@ pub remove-spec : {M : Type 1} → statement M
 remove-spec =
     tie.close
     (tie.spec
-    (λ c κs. search needs) returns mul-less element-copy-out-less without-task-requires sub-rest
+    (λ c κs. search needs) returns (λ c. record { fits = omega (arith, passed c .there, passed c .lawful .few) })
+    (λ c. omega (arith, passed c .there, passed c .lawful .few)) without-task-requires sub-rest
     (λ c. omega (arith, passed (c .before .before .before .before) .many)) returns-2)

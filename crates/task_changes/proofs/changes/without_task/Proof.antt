@@ -38,15 +38,6 @@ small c =
 loop-holds : tie.Need-loop-holds Inv-loop μ-loop
 loop-holds c = (omega arith, (ap placed (sym (without-nil (c .args .t))), sym (ap length (without-nil (c .args .t)))))
 
-mul-out-2 : tie.Need-mul-out-2 Inv-loop μ-loop
-mul-out-2 c = record { fits = omega (arith, small (c .before .before)) }
-
-array-write-out : tie.Need-array-write-out Inv-loop μ-loop
-array-write-out c = small (c .before .before)
-
-add-j : tie.Need-add-j Inv-loop μ-loop
-add-j c = record { fits = omega (arith, small (c .before .before)) }
-
 loop-again : tie.Need-loop-again Inv-loop μ-loop
 loop-again c =
     let a = c .before .before .before .args in
@@ -80,5 +71,7 @@ pub without-task-spec : {M : Type 1} → statement M
 without-task-spec =
     tie.close
     (tie.spec
-    Inv-loop μ-loop loop-holds (λ c. search needs) (λ c. search needs) mul-out-2 array-write-out add-j
-    (λ c. search needs) (λ c. search needs) loop-again returns)
+    Inv-loop μ-loop loop-holds (λ c. search needs) (λ c. search needs)
+    (λ c. record { fits = omega (arith, small (c .before .before)) }) (λ c. small (c .before .before))
+    (λ c. record { fits = omega (arith, small (c .before .before)) }) (λ c. search needs) (λ c. search needs)
+    loop-again returns)

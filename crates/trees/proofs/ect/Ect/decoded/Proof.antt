@@ -5,11 +5,9 @@ use Rattle.trees.proofs.Ects.{decoded-none, decoded-some}
 use Rattle.trees.proofs.ect.Ect.decoded.Statement.{statement}
 use Rattle.trees.proofs.ect.Ect.decoded.Tie as tie
 
-returns : tie.Need-returns
-returns c = sym (decoded-none (c .before .args .word) (c .if1 .taken))
-
-returns-2 : tie.Need-returns-2
-returns-2 c = sym (decoded-some (c .before .args .word) (omega arith))
-
 pub decoded-spec : {M : Type 1} → statement M
-decoded-spec = tie.close (tie.spec returns returns-2)
+decoded-spec =
+    tie.close
+    (tie.spec
+    (λ c. sym (decoded-none (c .before .args .word) (c .if1 .taken)))
+    (λ c. sym (decoded-some (c .before .args .word) (omega arith))))

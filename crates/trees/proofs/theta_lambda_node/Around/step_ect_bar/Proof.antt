@@ -8,18 +8,11 @@ use Rattle.trees.proofs.theta_lambda_node.Around.step_ect_bar.Tie as ti
 returns : tie.Need-returns
 returns c = rw (c .before .before .before .self .given .1, sym (c .before .is-gray .ensures) ∙ c .if1 .taken)
 
-descent-ect-bar-requires : tie.Need-descent-ect-bar-requires
-descent-ect-bar-requires c κs = rw (c .before .self2 .given .1) at (c .before .before .before .pre)
-
-returns-2 : tie.Need-returns-2
-returns-2 c = rw (c .before .before .before .self .given .1, sym (c .before .is-gray .ensures) ∙ c .if1 .left)
-
-returns-3 : tie.Need-returns-3
-returns-3 c = c .descent-ect-bar .ensures ∙ sym (ap stepAtEct (c .before .before .self2 .given .1))
-
 pub step-ect-bar-spec : {M : Type 1} → statement M
 step-ect-bar-spec =
     tie.close
     (tie.spec
-    (λ c. search needs) (λ c κs. search needs) returns (λ c. search needs) descent-ect-bar-requires returns-2
-    returns-3)
+    (λ c. search needs) (λ c κs. search needs) returns (λ c. search needs)
+    (λ c κs. rw (c .before .self2 .given .1) at (c .before .before .before .pre))
+    (λ c. rw (c .before .before .before .self .given .1, sym (c .before .is-gray .ensures) ∙ c .if1 .left))
+    (λ c. c .descent-ect-bar .ensures ∙ sym (ap stepAtEct (c .before .before .self2 .given .1))))

@@ -2,14 +2,14 @@
 use Prim.Native.Nat.{ℕ, _<_}
 use borrow.Fn.Kinds.{In}
 use borrow.Fn.PlainCycle.{Measures, is, falls, and}
-use Rattle.trees.proofs.theta_lambda_node.Around.step_p.Reads as step-reads
+use Rattle.trees.proofs.theta_lambda_node.Around.step_p.Reads as step
 use Rattle.trees.proofs.SearchSteps.{by-sums}
 use Rattle.trees.proofs.theta_lambda_tree.ThetaLambdaTree.responsible_index_p_internal.Reads as reads
 use Rattle.trees.proofs.theta_lambda_tree.ThetaLambdaTree.responsible_index_p_internal.Kinds as kinds
 use Rattle.trees.proofs.theta_lambda_tree.ThetaLambdaTree.+responsible_index_p_internal.Lts-responsible_index_p_internal as lts
-use Rattle.trees.proofs.theta_lambda_tree.ThetaLambdaTree.around.Reads as around-reads
-use Rattle.trees.proofs.complete_tree.get_left_child_index.Reads as left-reads
-use Rattle.trees.proofs.complete_tree.get_right_child_index.Reads as right-reads
+use Rattle.trees.proofs.theta_lambda_tree.ThetaLambdaTree.around.Reads as around
+use Rattle.trees.proofs.complete_tree.get_left_child_index.Reads as left
+use Rattle.trees.proofs.complete_tree.get_right_child_index.Reads as right
 use Rattle.trees.proofs.theta_lambda_tree.ThetaLambdaTree.+responsible_index_p_internal.{statement}
 use Rattle.trees.proofs.theta_lambda_tree.ThetaLambdaTree.+responsible_index_p_internal.Tie.{close}
 
@@ -25,7 +25,7 @@ module _ (t : ℕ) where
   below = and 1 kinds.ps (falls 1 kinds.ps _<_ μ t) reads.Pre
 
   abbrev claims : lts.Claims
-  claims = (around-reads.Asked, around-reads.Learnt, left-reads.Asked, left-reads.Learnt, right-reads.Asked, right-reads.Learnt, step-reads.Asked, step-reads.Learnt, below, reads.Post)
+  claims = (around.Asked, around.Learnt, left.Asked, left.Learnt, right.Asked, right.Learnt, step.Asked, step.Learnt, below, reads.Post)
 
 pub +responsible-index-p-internal-spec : {M : Type 1} → statement M
 +responsible-index-p-internal-spec =

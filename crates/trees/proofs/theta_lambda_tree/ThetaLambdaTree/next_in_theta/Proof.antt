@@ -20,9 +20,6 @@ abbrev μ-loop : tie.MeasureT-loop
 abbrev ect : Node → ℕ
 ect n = n .ect
 
-loop-holds : tie.Need-loop-holds Inv-loop μ-loop
-loop-holds c = (omega arith, omega arith, λ y lo hi. absurd (omega arith))
-
 returns : tie.Need-returns Inv-loop μ-loop
 unfolding whiteIn
 returns c =
@@ -47,5 +44,5 @@ pub next-in-theta-spec : {M : Type 1} → statement M
 next-in-theta-spec =
     tie.close
     (tie.spec
-    Inv-loop μ-loop loop-holds (λ c. search needs) (λ c κs. search needs) returns (λ c. search needs)
-    (λ c. search needs) loop-again returns-2)
+    Inv-loop μ-loop (λ c. (omega arith, omega arith, λ y lo hi. absurd (omega arith))) (λ c. search needs)
+    (λ c κs. search needs) returns (λ c. search needs) (λ c. search needs) loop-again returns-2)

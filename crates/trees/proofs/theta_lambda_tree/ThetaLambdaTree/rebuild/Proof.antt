@@ -16,9 +16,6 @@ Inv-loop nodes₀ inner i₀ nodes i = DuringRebuild additive inner (nodeAt node
 abbrev μ-loop : tie.MeasureT-loop
 μ-loop nodes₀ inner i₀ nodes i = i
 
-loop-holds : tie.Need-loop-holds Inv-loop μ-loop
-loop-holds c = (may-rebuild (c .pre .limited) (c .pre .has), c .pre .has .words-length)
-
 returns : tie.Need-returns Inv-loop μ-loop
 returns c = λ l. was-rebuilt (l .limited) (l .has) (c .before .loop .inv .0) (omega arith) (c .before .loop .inv .1)
 
@@ -26,6 +23,7 @@ pub rebuild-spec : {M : Type 1} → statement M
 rebuild-spec =
     tie.close
     (tie.spec
-    Inv-loop μ-loop loop-holds (λ c. search rebuilds) (λ c κs. search rebuilds) (λ c κs. search rebuilds)
-    (λ c κs. search rebuilds) (λ c κs. search rebuilds) (λ c κs. search rebuilds) (λ c κs. search rebuilds)
-    (λ c. search rebuilds) (λ c. search rebuilds) returns)
+    Inv-loop μ-loop (λ c. (may-rebuild (c .pre .limited) (c .pre .has), c .pre .has .words-length))
+    (λ c. search rebuilds) (λ c κs. search rebuilds) (λ c κs. search rebuilds) (λ c κs. search rebuilds)
+    (λ c κs. search rebuilds) (λ c κs. search rebuilds) (λ c κs. search rebuilds) (λ c. search rebuilds)
+    (λ c. search rebuilds) returns)

@@ -5,7 +5,7 @@ use native.Mathlib.Omega.{arith}
 use lib.ListN.{getD}
 use Rattle.trees.specs.ArraySearches.{responsibleOf}
 use Rattle.trees.specs.Words.{nodeAt}
-use Rattle.trees.proofs.SearchSteps.{RootSearchable, answer-at, no-answer, task-is}
+use Rattle.trees.proofs.SearchSteps.{RootSearchable, AnswerAt, answer-at, no-answer, task-is}
 use Rattle.trees.proofs.Trees.{root-searchable, responsible-of}
 use Rattle.trees.proofs.theta_lambda_tree.ThetaLambdaTree.responsible_ect_bar.Statement.{statement}
 use Rattle.trees.proofs.theta_lambda_tree.ThetaLambdaTree.responsible_ect_bar.Tie as tie
@@ -14,32 +14,28 @@ use Rattle.trees.proofs.theta_lambda_tree.ThetaLambdaTree.responsible_e
 asked : (c : tie.Start) → RootSearchable (c .args .inner) (c .args .height) (nodeAt (c .args .nodes .now))
 asked c = let (h, z) = c .pre in root-searchable (h .limited) (h .tree) (c .args .height) z
 
+-- and ends at the leaf of a task
+answer : (c : tie.Else1) → let a = c .before .before .args in AnswerAt (a .inner) (a .height) (nodeAt (a .nodes .now)) (c .before .responsible-index-ect-bar-internal .result)
+answer c = let a = c .before .before .args in
+    answer-at (a .inner) (a .height) (nodeAt (a .nodes .now)) (asked (c .before .before)) _ (c .before .responsible-index-ect-bar-internal .ensures) (c .if1 .left)
+
 returns : tie.Need-returns
 returns c = λ h z. let a = c .before .before .args in
     sym (ap (responsibleOf (a .reverse-mapping .now))
     (no-answer (a .inner) (a .height) (nodeAt (a .nodes .now)) (asked (c .before .before)) _ (c .before .responsible-index-ect-bar-internal .ensures) (c .if1 .taken)))
     ∙ ap (responsibleOf (a .reverse-mapping .now)) (responsible-of (h .limited) (h .tree) (a .height) z)
 
-get-leaf-node-index-requires : tie.Need-get-leaf-node-index-requires
-get-leaf-node-index-requires c κs =
-    let a = c .before .before .args in
-    omega (arith, (answer-at (a .inner) (a .height) (nodeAt (a .nodes .now)) (asked (c .before .before)) _ (c .before .responsible-index-ect-bar-internal .ensures) (c .if1 .left)) .is)
-
-task-of-requires : tie.Need-task-of-requires
-task-of-requires c κs =
-    let a = c .before .before .before .args in
-    let w = answer-at (a .inner) (a .height) (nodeAt (a .nodes .now)) (asked (c .before .before .before)) _ (c .before .before .responsible-index-ect-bar-internal .ensures) (c .before .if1 .left) in
-    omega (arith, w .is, w .small, c .get-leaf-node-index .ensures)
-
 returns-2 : tie.Need-returns-2
 returns-2 c = λ h z.
     let a = c .before .before .before .before .args in
-    let w = answer-at (a .inner) (a .height) (nodeAt (a .nodes .now)) (asked (c .before .before .before .before)) _ (c .before .before .before .responsible-index-ect-bar-internal .ensures)
-    (c .before .before .if1 .left) in
+    let w = answer (c .before .before) in
     let p : c .before .get-leaf-node-index .result .0 ≡ w .place = c .before .get-leaf-node-index .ensures ∙ omega (arith, w .is) in
     task-is _ _ _ _ (w .same) (c .task-of .ensures ∙ ap (λ (k : ℕ). getD (a .reverse-mapping .now) k 0) p)
     ∙ ap (responsibleOf (a .reverse-mapping .now)) (responsible-of (h .limited) (h .tree) (a .height) z)
 
 pub responsible-ect-bar-spec : {M : Type 1} → statement M
 responsible-ect-bar-spec =
-    tie.close (tie.spec (λ c κs. asked c .from-root) returns get-leaf-node-index-requires task-of-requires returns-2)
+    tie.close
+    (tie.spec
+    (λ c κs. asked c .from-root) returns (λ c κs. omega (arith, answer c .is))
+    (λ c κs. omega (arith, answer (c .before) .is, answer (c .before) .small, c .get-leaf-node-index .ensures)) returns-2)
