@@ -5,7 +5,8 @@ use mathlib.Core.List.{List, []}
 use Prim.Native.Nat.{ℕ, _+_, _-_, _≤_, _<_, min, max}
 use native.Mathlib.Omega.{arith}
 use lib.IntN.{ℤ, pos, negsuc, _+ℤ_, _-ℤ_}
-use lib.ListN.{length, getD, take}
+use lib.Signed.{_≤ℤ_}
+use lib.ListN.{length, getD}
 use Rattle.integers.specs.Answers.{refusedBy}
 use Rattle.integers.specs.Limits.{TASKS}
 use Rattle.integers.specs.FilledLists.{filled, noTasks}
@@ -19,15 +20,16 @@ use Rattle.scheduling.proofs.Sets.{total-ext}
 use Rattle.records.specs.declared.record.DisjunctivePropagator.{DisjunctivePropagator}
 use Rattle.records.specs.Records.{durationOf}
 use Rattle.fixed_schedules.specs.FixedSchedules.{orderOf, tasksOn, AcceptedFixed}
-use Rattle.fixed_schedules.specs.Neighbours.{inMoments}
+use Rattle.fixed_schedules.specs.Neighbours.{inMoments, Tested}
+use Rattle.fixed_schedules.specs.declared.refusals.FixedOrder.{FixedOrder}
 use Rattle.fixed_schedules.specs.Parameters.{LengthFits}
 use Rattle.fixed_schedules.proofs.AcceptedSchedules.{AtMoments, input-of, at-moments, by-moments, moment-low, moment-high}
 use Rattle.busiest_stretch.specs.declared.answer.Busiest.{Busiest}
 use Rattle.busiest_stretch.specs.declared.answer.Busiest.the-variants.{Stretch, Refused}
 use Rattle.busiest_stretch.specs.Numbers.{busiestNumbers}
-use Rattle.busiest_stretch.specs.Stretches.{common, covered, Counts, BusiestAt, stretchNumber, BusiestFound, BusiestAnswered}
+use Rattle.busiest_stretch.specs.Stretches.{common, covered, Counts, BusiestAt, stretchNumber, BusiestAnswered}
 use Rattle.busiest_stretch.specs.StretchMoments.{commonIn, commonAt, coveredIn, Slidable, FirstAndLast, BusiestMoment}
-use Rattle.busiest_stretch.proofs.StretchRefused.{stretch-many}
+use Rattle.busiest_stretch.proofs.StretchRefused.{stretch-many, accepted-call}
 
 -- a difference that is not negative, or 0
 positive : (z : ℤ) (p q : ℕ) → up z + q ≡ p + dn z → durationOf z ≡ p - q
@@ -59,11 +61,8 @@ module _ (o : ℕ) (J : Tasks whole) (M : Tasks natural) (at-moments : AtMoments
       each k q =
           let a = J .earliest k in
           let d = J .duration k in
-          common-same o a (a +ℤ pos d) x (x +ℤ pos w) (at-moments .above k q) (plus-above o a d (at-moments .above k q)) p (plus-above o x w p)
-          ∙ ap (λ (e : ℕ). commonIn (moment o a) e (moment o x) (moment o (x +ℤ pos w))) (plus o a d (at-moments .above k q))
-          ∙ ap (commonIn (moment o a) (moment o a + d) (moment o x)) (plus o x w p)
-          ∙ ap (λ (s : ℕ). commonIn s (s + d) (moment o x) (moment o x + w)) (sym (at-moments .start k q))
-          ∙ ap (λ (n : ℕ). commonIn (M .earliest k) (M .earliest k + n) (moment o x) (moment o x + w)) (sym (at-moments .lasts k q))
+          rw (at-moments .start k q, at-moments .lasts k q, ← plus o a d (at-moments .above k q), ← plus o x w p)
+          (common-same o a (a +ℤ pos d) x (x +ℤ pos w) (at-moments .above k q) (plus-above o a d (at-moments .above k q)) p (plus-above o x w p))
 
   -- what is busiest in moments is so in whole numbers
   module _ (first last : ℕ) (least : (k : ℕ) → k < J .count → first ≤ M .earliest k) (greatest : (k : ℕ) → k < J .count → M .earliest k ≤ last)
@@ -108,47 +107,67 @@ run-of n order starts place o h = record {
   starts-last = (getD order (n - 1) 0, o .task (n - 1) (omega arith), refl);
 }
 
--- ---- an accepted call
-module _ (r : DisjunctivePropagator) (es ls : List ℤ) (w : ℤ) (a : AcceptedFixed r es ls) (q : LengthFits w) (starts : List ℕ) (s : starts ≡ filled (momentAt es) (length es) noTasks)
-    (length′ : ℕ) (p : pos length′ ≡ w) (order : List ℕ) (e : take (length es) order ≡ orderOf es) where
-  by-start : Ordered (r .count) (λ t. getD order t 0) (index (orderOf es)) (λ j k. getD starts j 0 ≤ getD starts k 0)
-  by-start = by-moments r es ls (input-of a) starts s order e
+-- ---- a call by the number and the order that its refusal answers; v is the length as the machine hands it on
+module _ (r : DisjunctivePropagator) (es ls : List ℤ) (v : ℤ) {f : FixedOrder} (t : Tested es (stretchNumber r es ls v) f) where
+  pub refused : (w : ℤ) (m : ℕ) → m ≡ f .number → (m ≡ 0 → ⊥) → v ≡ w → BusiestAnswered r es ls w (Refused m)
+  refused w m e not same =
+      let n : m ≡ stretchNumber r es ls w = e ∙ t .number ∙ ap (stretchNumber r es ls) same in
+      record { refused = λ _. ap refusedBy n; found = λ z. absurd (not (n ∙ z)) }
 
-  -- the places of the order hold tasks
-  pub task-small : (t : ℕ) → t < r .count → getD order t 0 < r .count
-  task-small t l = by-start .task t l
+  module _ (z : f .number ≡ 0) where
+    held : AcceptedFixed r es ls × LengthFits v
+    held = accepted-call r es ls v .0 (sym (t .number) ∙ z)
 
-  pub slidable : Slidable (r .count) starts (r .durations) length′
-  unfolding up dn
-  slidable = record {
-    few = a .lawful .few;
-    low = λ k l. omega (arith, moment-low r es ls (input-of a) starts s k l);
-    high = moment-high r es ls (input-of a) starts s;
-    sum = a .lawful .sum;
-    length = omega (ints, q .high);
-  }
+    pub few-starts : length es ≤ TASKS
+    few-starts = omega (arith, held .0 .counts .earliest, held .0 .lawful .few)
 
-  pub runs : FirstAndLast (r .count) starts (getD starts (getD order 0 0) 0) (getD starts (getD order (r .count - 1) 0) 0)
-  runs = run-of (r .count) order starts (index (orderOf es)) by-start (a .lawful .some)
+    pub lasts : pos 0 ≤ℤ v
+    unfolding up dn
+    lasts = omega (ints, held .1 .low)
 
-  pub found : (c m : ℕ) → BusiestMoment (inMoments (r .count) starts (r .durations)) length′ (getD starts (getD order 0 0) 0) (getD starts (getD order (r .count - 1) 0) 0) c m
-      → (x : ℤ) → x ≡ instant zeroAt m → BusiestFound r es ls w (Stretch c x)
-  found c m b x z = record {
-    time = c;
-    start = instant zeroAt m;
-    answer = ap (λ (s : ℤ). busiestNumbers (Stretch c s)) z;
-    busiest = subst (λ (n : ℕ). BusiestAt (tasksOn r es ls) n c (instant zeroAt m)) (ap durationOf p)
-        (busiest-up zeroAt (tasksOn r es ls) (inMoments (r .count) starts (r .durations)) (at-moments r es ls (input-of a) starts s) (getD starts (getD order 0 0) 0)
-        (getD starts (getD order (r .count - 1) 0) 0) (runs .least) (runs .greatest) (runs .starts-first) (runs .starts-last) length′ c m b);
-  }
+    module _ (starts : List ℕ) (s : starts ≡ filled (momentAt es) (length es) noTasks) where
+      by-start : Ordered (r .count) (λ t. getD (f .order) t 0) (index (orderOf es)) (λ j k. getD starts j 0 ≤ getD starts k 0)
+      by-start = by-moments r es ls (input-of (held .0)) starts s (f .order) (t .order (sym (t .number) ∙ z))
 
--- ---- the call
-module _ (r : DisjunctivePropagator) (es ls : List ℤ) (w : ℤ) where
-  pub refused : (m : ℕ) → m ≡ stretchNumber r es ls w → (m ≡ 0 → ⊥) → BusiestAnswered r es ls w (Refused m)
-  refused m e not = record { refused = λ _. ap refusedBy e; found = λ z. absurd (not (e ∙ z)) }
+      -- the first and the last place hold tasks
+      pub places : (0 < r .count) × (r .count ≤ TASKS) × (getD (f .order) 0 0 < r .count) × (getD (f .order) (r .count - 1) 0 < r .count)
+      places =
+          let some = held .0 .lawful .some in
+          (some, held .0 .lawful .few, by-start .task 0 some, by-start .task (r .count - 1) (omega (arith, some)))
 
-  pub answered : (x : Busiest) → stretchNumber r es ls w ≡ 0 → BusiestFound r es ls w x → BusiestAnswered r es ls w x
-  answered x z f = record { refused = λ not. absurd (not z); found = λ _. f }
+      abbrev runs : FirstAndLast (r .count) starts (getD starts (getD (f .order) 0 0) 0) (getD starts (getD (f .order) (r .count - 1) 0) 0)
+      runs = run-of (r .count) (f .order) starts (index (orderOf es)) by-start (held .0 .lawful .some)
+
+      module _ (length′ : ℕ) (p : pos length′ ≡ v) where
+        pub slidable : Slidable (r .count) starts (r .durations) length′ × FirstAndLast (r .count) starts (getD starts (getD (f .order) 0 0) 0) (getD starts (getD (f .order) (r .count - 1) 0) 0)
+        unfolding up dn
+        slidable = (
+          record {
+            few = held .0 .lawful .few;
+            low = λ k l. omega (arith, moment-low r es ls (input-of (held .0)) starts s k l);
+            high = moment-high r es ls (input-of (held .0)) starts s;
+            sum = held .0 .lawful .sum;
+            length = omega (ints, held .1 .high);
+          },
+          runs,
+        )
+
+        pub found : (w : ℤ) (c : ℕ) (x : ℤ) {m : ℕ} {y : ℤ} → v ≡ w
+            → BusiestMoment (inMoments (r .count) starts (r .durations)) length′ (getD starts (getD (f .order) 0 0) 0) (getD starts (getD (f .order) (r .count - 1) 0) 0) c m
+            → y ≡ instant zeroAt m
+            → x ≡ y
+            → BusiestAnswered r es ls w (Stretch c x)
+        found w c x {m} same b e g = record {
+          refused = λ not. absurd (not (ap (stretchNumber r es ls) (sym same) ∙ sym (t .number) ∙ z));
+          found = λ _. record {
+            time = c;
+            start = instant zeroAt m;
+            answer = ap (λ (s : ℤ). busiestNumbers (Stretch c s)) (g ∙ e);
+            busiest = subst (λ (n : ℕ). BusiestAt (tasksOn r es ls) n c (instant zeroAt m)) (ap durationOf (p ∙ same))
+                (busiest-up zeroAt (tasksOn r es ls) (inMoments (r .count) starts (r .durations)) (at-moments r es ls (input-of (held .0)) starts s) (getD starts (getD (f .order) 0 0) 0)
+                (getD starts (getD (f .order) (r .count - 1) 0) 0) (runs .least) (runs .greatest) (runs .starts-first) (runs .starts-last) length′ c m b);
+          };
+        }
 
 -- too many ranges are refused as none are
 pub too-many : (r : DisjunctivePropagator) (es ls : List ℤ) (w : ℤ) (x : Busiest) → TASKS < length es → BusiestAnswered r [] [] w x → BusiestAnswered r es ls w x

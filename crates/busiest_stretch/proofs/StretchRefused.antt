@@ -1,6 +1,5 @@
 -- What refuses a call: what holds where nothing does, and the sole ground for each number.
-use mathlib.Core.Path.{_≡_, refl, _∙_}
-use mathlib.Core.Bool.{true, false}
+use mathlib.Core.Path.{_≡_, refl}
 use mathlib.Core.Logic.{_↔_}
 use mathlib.Core.List.{List, [], _∷_}
 use Prim.Native.Nat.{_<_}
@@ -8,12 +7,12 @@ use lib.IntN.{ℤ}
 use lib.ListN.{length}
 use Rattle.integers.specs.Limits.{TASKS}
 use Rattle.integers.specs.Tests.{Test, test}
-use Rattle.integers.proofs.Tests.{accepts, refuses, more-accepted, more-refused}
+use Rattle.integers.proofs.Tests.{more-accepted, more-refused}
 use Rattle.records.specs.declared.record.DisjunctivePropagator.{DisjunctivePropagator}
-use Rattle.fixed_schedules.specs.FixedSchedules.{fixedTests, fixedNumber, AcceptedFixed}
+use Rattle.fixed_schedules.specs.FixedSchedules.{fixedTests, AcceptedFixed}
 use Rattle.fixed_schedules.specs.Parameters.{lengthFits, LengthFits}
 use Rattle.fixed_schedules.proofs.ParameterMoments.{length-is}
-use Rattle.fixed_schedules.proofs.FixedRefused.{fixed-first, fixed-then, SoleGrounds, fixed-grounds, fixed-many, passed-fixed}
+use Rattle.fixed_schedules.proofs.FixedRefused.{SoleGrounds, fixed-grounds, fixed-many, passed-fixed}
 use Rattle.busiest_stretch.specs.Stretches.{stretchNumber}
 
 module _ (r : DisjunctivePropagator) (es ls : List ℤ) (w : ℤ) where
@@ -24,17 +23,6 @@ module _ (r : DisjunctivePropagator) (es ls : List ℤ) (w : ℤ) where
   -- nothing refuses the call
   pub accepted-call : stretchNumber r es ls w ≡ 0 ↔ (AcceptedFixed r es ls × LengthFits w)
   accepted-call = more-accepted (fixedTests r es ls) t23 (passed-fixed r es ls) (length-is w) refl refl
-
-  -- what is wrong with the schedule goes before
-  pub schedule-first : (fixedNumber r es ls ≡ 0 → ⊥) → stretchNumber r es ls w ≡ fixedNumber r es ls
-  schedule-first h = fixed-first r es ls (t23 ∷ []) h
-
-  -- the test that is left when the schedule has passed
-  pub wrong-length : fixedNumber r es ls ≡ 0 → lengthFits w ≡ false → stretchNumber r es ls w ≡ 23
-  wrong-length z h = fixed-then r es ls (t23 ∷ []) z ∙ refuses [] t23 [] tt h
-
-  pub none-wrong : fixedNumber r es ls ≡ 0 → lengthFits w ≡ true → stretchNumber r es ls w ≡ 0
-  none-wrong z h = fixed-then r es ls (t23 ∷ []) z ∙ accepts (t23 ∷ []) (h, tt)
 
   -- The sole ground for each number: those of the schedule, and the call's own.
   pub sole-grounds : SoleGrounds r es ls (stretchNumber r es ls w)

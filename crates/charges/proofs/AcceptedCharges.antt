@@ -20,38 +20,40 @@ use Rattle.charges.specs.ChargeLoop.{Chargeable, Summed}
 use Rattle.charges.proofs.ChargesRefused.{accepted-charges, charges-many}
 
 module _ (r : DisjunctivePropagator) (es ls due : List ℤ) where
-  pub chargeable : AcceptedCharges r es ls due → Chargeable (r .durations) es due
-  chargeable a = record {
-    sortable = sortable r es ls (input-of (a .schedule));
-    durations = short r es ls (input-of (a .schedule));
-    dues = record { long = a .dues .long ∙ sym (a .schedule .counts .earliest); within = a .dues .within };
-  }
-
   pub refused : (m : ℕ) (b : TaskCharges) → m ≡ chargesNumber r es ls due → (m ≡ 0 → ⊥) → b ≡ noCharges → Charged r es ls due (record { charged = b; answer = Refused m })
   refused m b e not none = record { refused = λ _. (ap refusedBy e, none); made = λ z. absurd (not (e ∙ z)) }
 
-  pub made : (b : TaskCharges) → chargesNumber r es ls due ≡ 0 → Summed (r .durations) es due b → Charged r es ls due (record { charged = b; answer = Made })
-  made b z s = record { refused = λ not. absurd (not z); made = λ _. (ap (λ (n : ℕ). answered 0 (pos n ∷ [])) (right .total), right) }
-    where
-      f : ℕ → ℕ
-      f = chargeAt (r .durations) es due
+  -- no test failed
+  module _ {m : ℕ} (e : m ≡ chargesNumber r es ls due) (z : m ≡ 0) where
+    a : AcceptedCharges r es ls due
+    a = accepted-charges r es ls due .0 (sym e ∙ z)
 
-      a : AcceptedCharges r es ls due
-      a = accepted-charges r es ls due .0 z
+    pub chargeable : Chargeable (r .durations) es due
+    chargeable = record {
+      sortable = sortable r es ls (input-of (a .schedule));
+      durations = short r es ls (input-of (a .schedule));
+      dues = record { long = a .dues .long ∙ sym (a .schedule .counts .earliest); within = a .dues .within };
+    }
 
-      count : length es ≡ r .count
-      count = a .schedule .counts .earliest
+    pub made : (b : TaskCharges) → Summed (r .durations) es due b → Charged r es ls due (record { charged = b; answer = Made })
+    made b s = record { refused = λ not. absurd (not (sym e ∙ z)); made = λ _. (ap (λ (n : ℕ). answered 0 (pos n ∷ [])) (right .total), right) }
+      where
+        f : ℕ → ℕ
+        f = chargeAt (r .durations) es due
 
-      long : length noTasks ≡ TASKS
-      long = length-replicate {A = ℕ} TASKS 0
+        count : length es ≡ r .count
+        count = a .schedule .counts .earliest
 
-      right : ChargesRight r es due b
-      right = record {
-        long = ap length (s .charges) ∙ filled-length f (length es) noTasks ∙ long;
-        charge = λ k q. ap (λ (l : List ℕ). getD l k 0) (s .charges) ∙ filled-at f (length es) noTasks 0 k (omega (arith, count)) (omega (arith, count, long, a .schedule .lawful .few));
-        unused = λ k q. ap (λ (l : List ℕ). getD l k 0) (s .charges) ∙ filled-past f (length es) noTasks 0 k (omega (arith, count)) ∙ getD-fresh 0 TASKS k;
-        total = s .sum ∙ ap (total f) count;
-      }
+        long : length noTasks ≡ TASKS
+        long = length-replicate {A = ℕ} TASKS 0
+
+        right : ChargesRight r es due b
+        right = record {
+          long = ap length (s .charges) ∙ filled-length f (length es) noTasks ∙ long;
+          charge = λ k q. ap (λ (l : List ℕ). getD l k 0) (s .charges) ∙ filled-at f (length es) noTasks 0 k (omega (arith, count)) (omega (arith, count, long, a .schedule .lawful .few));
+          unused = λ k q. ap (λ (l : List ℕ). getD l k 0) (s .charges) ∙ filled-past f (length es) noTasks 0 k (omega (arith, count)) ∙ getD-fresh 0 TASKS k;
+          total = s .sum ∙ ap (total f) count;
+        }
 
 -- too many ranges are refused as none are
 pub too-many : (r : DisjunctivePropagator) (es ls due : List ℤ) (c : Charges) → TASKS < length es → Charged r [] [] due c → Charged r es ls due c

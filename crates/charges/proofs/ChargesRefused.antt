@@ -1,6 +1,6 @@
 -- What refuses a call for charges: what holds where nothing does, and the sole ground for each number.
-use mathlib.Core.Path.{_≡_, refl, _∙_}
-use mathlib.Core.Bool.{true, false, _&&_}
+use mathlib.Core.Path.{_≡_, refl}
+use mathlib.Core.Bool.{true, _&&_}
 use mathlib.Core.Logic.{_↔_}
 use mathlib.Core.List.{List, [], _∷_}
 use Prim.Native.Nat.{ℕ, _<_}
@@ -12,11 +12,11 @@ use borrow.Author.Tests.{eqb-true, eq-eqb}
 use Rattle.integers.specs.Limits.{TASKS, DUE}
 use Rattle.integers.specs.Tests.{Test, test, allBelow}
 use Rattle.integers.proofs.Bools.{and-true, and-yes}
-use Rattle.integers.proofs.Tests.{all-at, all-show, accepts, refuses, more-accepted, more-refused}
+use Rattle.integers.proofs.Tests.{all-at, all-show, more-accepted, more-refused}
 use Rattle.records.specs.declared.record.DisjunctivePropagator.{DisjunctivePropagator}
 use Rattle.records.proofs.RefusedRuns.{within-is}
-use Rattle.fixed_schedules.specs.FixedSchedules.{fixedTests, fixedNumber, AcceptedFixed}
-use Rattle.fixed_schedules.proofs.FixedRefused.{fixed-first, fixed-then, SoleGrounds, fixed-grounds, fixed-many, passed-fixed}
+use Rattle.fixed_schedules.specs.FixedSchedules.{fixedTests, AcceptedFixed}
+use Rattle.fixed_schedules.proofs.FixedRefused.{SoleGrounds, fixed-grounds, fixed-many, passed-fixed}
 use Rattle.charges.specs.Charges.{dueFitsAt, chargesNumber, DueFits, DuesFit, AcceptedCharges}
 
 due-is : (z : ℤ) → leZ (negℤ (pos DUE)) z && leZ z (pos DUE) ≡ true ↔ DueFits z
@@ -41,17 +41,6 @@ module _ (r : DisjunctivePropagator) (es ls due : List ℤ) where
   accepted-charges =
       let w = more-accepted (fixedTests r es ls) t19 (passed-fixed r es ls) (dues-are (r .count) due) refl refl in
       (λ h. (let f = w .0 h in record { schedule = f .0; dues = f .1 }), λ a. w .1 (a .schedule, a .dues))
-
-  -- what is wrong with the schedule goes before
-  pub schedule-first : (fixedNumber r es ls ≡ 0 → ⊥) → chargesNumber r es ls due ≡ fixedNumber r es ls
-  schedule-first h = fixed-first r es ls (t19 ∷ []) h
-
-  -- the test that is left when the schedule has passed
-  pub wrong-dues : fixedNumber r es ls ≡ 0 → t19 .passed ≡ false → chargesNumber r es ls due ≡ 19
-  wrong-dues z h = fixed-then r es ls (t19 ∷ []) z ∙ refuses [] t19 [] tt h
-
-  pub right-dues : fixedNumber r es ls ≡ 0 → t19 .passed ≡ true → chargesNumber r es ls due ≡ 0
-  right-dues z h = fixed-then r es ls (t19 ∷ []) z ∙ accepts (t19 ∷ []) (h, tt)
 
   -- The sole ground for each number: those of the schedule, and the call's own.
   pub sole-grounds : SoleGrounds r es ls (chargesNumber r es ls due)

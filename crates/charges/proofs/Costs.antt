@@ -126,12 +126,7 @@ row-turn {rows} hours i {done} {cost} {reached} e q d k h = subst (λ (l : List 
     here = h ∙ ap (λ (l : List Row). min hours (rowIn l i .upto)) e
 
     sum : cost + (reached - done) * rowAt i .cents ≡ costOfHours reached
-    sum =
-        ap (λ (x : ℕ). x + (reached - done) * rowAt i .cents) (k ∙ ap costOfHours d)
-        ∙ ap (λ (x : ℕ). costOfHours (min hours (from i)) + (x - done) * rowAt i .cents) here
-        ∙ ap (λ (x : ℕ). costOfHours (min hours (from i)) + (min hours (rowAt i .upto) - x) * rowAt i .cents) d
-        ∙ sym (row-more hours i q)
-        ∙ ap costOfHours (sym here)
+    sum = rw (k, here, d) (sym (row-more hours i q))
 
     turn : RowTurn tariff hours i done cost reached
     turn = record {

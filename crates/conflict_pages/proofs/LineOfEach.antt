@@ -6,15 +6,14 @@ use Prim.Native.Nat.{ℕ, _+_, _*_, _≤_, _<_}
 use native.Mathlib.Omega.{arith}
 use lib.IntN.{ℤ, pos, _+ℤ_}
 use lib.ListN.{length, getD, take, drop, length-append}
-use lib.Seq.{take-at, drop-append-add}
+use lib.Seq.{take-at}
 use Rattle.integers.specs.Limits.{TASKS, DURATIONS}
 use Rattle.integers.specs.Texts.{bytesOf}
 use Rattle.records.specs.declared.record.DisjunctivePropagator.{DisjunctivePropagator}
 use Rattle.records.specs.Refusals.{StartFits}
 use Rattle.text.specs.DecimalText.{decimal}
-use Rattle.pages.specs.Lines.{padLeft}
 use Rattle.pages.proofs.RightAligned.{pad-length, task-fits, start-fits, end-fits}
-use Rattle.pages.proofs.PageLines.{flat-line}
+use Rattle.pages.proofs.PageLines.{line-after}
 use Rattle.conflicts.specs.declared.answer.Conflict.{Conflict}
 use Rattle.conflicts.specs.Answers.{flagged}
 use Rattle.conflict_pages.specs.Lines.{LINE, lineEnd, columns, heading, lineOf}
@@ -32,23 +31,14 @@ end-length false = refl
 line-length : (task : ℕ) (earliest latest : ℤ) (d : ℕ) (marked : Bool) → task < TASKS → StartFits earliest → StartFits latest → d ≤ DURATIONS
     → length (lineOf task earliest (latest +ℤ pos d) d marked) ≡ LINE
 unfolding columns
-line-length task earliest latest d marked h i j k =
-    let a = padLeft 4 (decimal (pos task)) in
-    let b = padLeft 12 (decimal earliest) in
-    let c = padLeft 12 (decimal (latest +ℤ pos d)) in
-    let e = padLeft 12 (decimal (pos d)) in
-    omega (
-      arith,
-      pad-length 4 (decimal (pos task)) (omega (arith, task-fits task h)),
-      pad-length 12 (decimal earliest) (omega (arith, start-fits earliest i)),
-      pad-length 12 (decimal (latest +ℤ pos d)) (omega (arith, end-fits latest d j k)),
-      pad-length 12 (decimal (pos d)) (omega (arith, count-fits d k)),
-      end-length marked,
-      length-append a b,
-      length-append (a ++ b) c,
-      length-append (a ++ b ++ c) e,
-      length-append (a ++ b ++ c ++ e) (lineEnd marked),
-    )
+line-length task earliest latest d marked h i j k = simp length-append (omega (
+  arith,
+  pad-length 4 (decimal (pos task)) (omega (arith, task-fits task h)),
+  pad-length 12 (decimal earliest) (omega (arith, start-fits earliest i)),
+  pad-length 12 (decimal (latest +ℤ pos d)) (omega (arith, end-fits latest d j k)),
+  pad-length 12 (decimal (pos d)) (omega (arith, count-fits d k)),
+  end-length marked,
+))
 
 module _ (r : DisjunctivePropagator) (es ls : List ℤ) (c : Conflict) {room : ℕ} (a : Linable es ls (r .durations) room) where
   -- task k's line
@@ -72,12 +62,8 @@ module _ (r : DisjunctivePropagator) (es ls : List ℤ) (c : Conflict) {room : �
   unfolding bytesOf
   one-line-each = record {
     first = ap (take LINE) parted ∙ take-at heading (flatMap f tasks ++ sentences) LINE refl;
-    line = λ t q.
-        (let e : LINE * (t + 1) ≡ LINE + LINE * t = omega arith in
-        ap (λ (n : ℕ). take LINE (drop n (pageOf r es ls c))) e
-        ∙ ap (λ (l : List ℕ). take LINE (drop (LINE + LINE * t) l)) parted
-        ∙ ap (take LINE) (drop-append-add heading (flatMap f tasks ++ sentences) (LINE * t))
-        ∙ flat-line f LINE tasks (λ k h. each-line k (chosen (flagged (c .set .tasks)) (length es) k h .0)) sentences t q);
+    line = λ t q. ap (λ (l : List ℕ). take LINE (drop (LINE * (t + 1)) l)) parted
+        ∙ line-after f LINE heading refl tasks (λ k h. each-line k (chosen (flagged (c .set .tasks)) (length es) k h .0)) sentences t q;
     chosen = chosen-at (flagged (c .set .tasks)) (length es);
     every = place-of (flagged (c .set .tasks)) (length es);
     rising = chosen-rise (flagged (c .set .tasks)) (length es);

@@ -1,11 +1,12 @@
 -- Each way that the call ends meets its contract.
 use mathlib.Core.Path.{_≡_, refl, sym, ap, subst, _∙_}
-use mathlib.Core.Bool.{Bool, true, false}
+use mathlib.Core.Bool.{Bool, true, false, not}
 use mathlib.Core.List.{List, []}
 use Prim.Native.Nat.{ℕ, _+_, _*_, _≤_, _<_}
 use native.Mathlib.Omega.{arith}
 use lib.IntN.{ℤ}
 use lib.ListN.{length}
+use borrow.Author.Tests.{not-true, not-false}
 use Rattle.integers.specs.Answers.{refusedBy}
 use Rattle.integers.specs.Limits.{TASKS}
 use Rattle.integers.proofs.Bools.{clash}
@@ -56,6 +57,9 @@ module _ (r : DisjunctivePropagator) (es ls : List ℤ) (bars : Bool) (out : Lis
       pub accepted : inputNumber r es ls bars ≡ 0
       accepted = sym (number-is r es ls bars c x) ∙ sym e ∙ z
 
+      pub few-tasks : r .count ≤ TASKS
+      few-tasks = accepted-input r es ls bars .0 accepted .0 .lawful .few
+
       pub room-refused : {out′ : List ℕ} → length out < LINE * (r .count + 5) → out′ ≡ out → ConflictPaged r es ls bars out (Refused 15) out′
       room-refused h k = refused-by 15 (no-room r es ls bars (length out) accepted h) (λ y. absurd (omega arith)) k
 
@@ -70,14 +74,14 @@ module _ (r : DisjunctivePropagator) (es ls : List ℤ) (bars : Bool) (out : Lis
         pageable long = let i = accepted-input r es ls bars .0 accepted .0 in record { input = i; sayable = sayable r es ls i long c x; space = room }
 
         of-each : length (r .durations) ≡ TASKS → OneLineEach r es ls (conflictOf r es ls) (tasksOf (conflictOf r es ls .set .tasks) (length es))
-        of-each long = subst (λ (d : Conflict). OneLineEach r es ls d (tasksOf (d .set .tasks) (length es))) same (one-line-each r es ls c (linable r es ls c (pageable long)))
+        of-each long = subst (λ (d : Conflict). OneLineEach r es ls d (tasksOf (d .set .tasks) (length es))) same (one-line-each r es ls c (linable r es ls c out (pageable long)))
 
-        pub nothing-found : {out′ : List ℕ} → length (r .durations) ≡ TASKS → shows (c .found) ≡ false → out′ ≡ out → ConflictPaged r es ls bars out NothingFound out′
-        nothing-found long h k = record {
+        pub nothing-found : {out′ : List ℕ} {b : Bool} → length (r .durations) ≡ TASKS → b ≡ shows (c .found) → not b ≡ true → out′ ≡ out → ConflictPaged r es ls bars out NothingFound out′
+        nothing-found long g h k = record {
           refused = λ not. absurd (not none);
           right = λ _. subst (ConflictFound r es ls bars) same x;
           nothing = λ _ _. record { answer = refl; keeps = k };
-          written = λ _ not. absurd (not (ap (λ (d : Conflict). d .found) (sym same) ∙ by (c .found) refl h));
+          written = λ _ not. absurd (not (ap (λ (d : Conflict). d .found) (sym same) ∙ by (c .found) refl (sym g ∙ not-true _ h)));
           lines = λ _. of-each long;
         }
           where
@@ -87,12 +91,12 @@ module _ (r : DisjunctivePropagator) (es ls : List ℤ) (bars : Bool) (out : Lis
             by (found.Late i l b) g h = clash (ap shows g) h
             by (found.Refused n) g h = absurd (not-refused r es ls bars c x accepted n g)
 
-        pub page-written : {out′ : List ℕ} (n : ℕ) → length (r .durations) ≡ TASKS → shows (c .found) ≡ true → Puts out out′ 0 (pageOf r es ls c) n → n ≤ length out
+        pub page-written : {out′ : List ℕ} {b : Bool} (n : ℕ) → length (r .durations) ≡ TASKS → b ≡ shows (c .found) → not b ≡ false → Puts out out′ 0 (pageOf r es ls c) n → n ≤ length out
             → ConflictPaged r es ls bars out (Written n) out′
-        page-written {out′} n long h p fits = record {
+        page-written {out′} n long f h p fits = record {
           refused = λ not. absurd (not none);
           right = λ _. subst (ConflictFound r es ls bars) same x;
-          nothing = λ _ g. clash h (ap shows (ap (λ (d : Conflict). d .found) same ∙ g));
+          nothing = λ _ g. clash (sym f ∙ not-false _ h) (ap shows (ap (λ (d : Conflict). d .found) same ∙ g));
           written = λ _ _. subst (λ (d : Conflict). PageLeft (pageOf r es ls d) out (Written n) out′) same left;
           lines = λ _. of-each long;
         }

@@ -1,6 +1,6 @@
 -- What refuses a conflict's page: the call's number, then the room; and the sole ground for each number.
 use mathlib.Core.Path.{_≡_, refl, ap, sym, _∙_}
-use mathlib.Core.Bool.{Bool, true, false}
+use mathlib.Core.Bool.{Bool, true}
 use mathlib.Core.Logic.{_↔_, inl, inr}
 use mathlib.Core.List.{List, [], _∷_}
 use Prim.Native.Nat.{ℕ, _+_, _*_, _≤_, _<_}
@@ -17,9 +17,10 @@ use Rattle.integers.proofs.Bools.{clash}
 use Rattle.scheduling.specs.Scheduling.{TaskSet, Overloads}
 use Rattle.scheduling.specs.Scheduling as scheduling
 use Rattle.records.specs.declared.record.DisjunctivePropagator.{DisjunctivePropagator}
-use Rattle.records.specs.Records.{Lawful, tasksIn}
-use Rattle.records.specs.Refusals.{inputTests, inputNumber, CountsFit, StartsFit, RangesFit, AcceptedInput}
-use Rattle.records.proofs.RefusedRuns.{passed-input, input-passed, range-20, range-10, range-3, range-4, input-13, input-many}
+use Rattle.records.specs.Records.{tasksIn}
+use Rattle.records.specs.Refusals.{inputTests, inputNumber, AcceptedInput}
+use Rattle.records.proofs.RefusedRuns.{passed-input, input-passed, input-many}
+use Rattle.records.proofs.InputGrounds.{InputGrounds, input-grounds}
 use Rattle.conflicts.specs.declared.answer.Found.{Found}
 use Rattle.conflicts.specs.declared.answer.Found.the-variants.{NothingFound, Overload, Late, Refused}
 use Rattle.conflicts.specs.declared.answer.Conflict.{Conflict}
@@ -73,21 +74,9 @@ module _ (r : DisjunctivePropagator) (es ls : List ℤ) (bars : Bool) (bytes : �
   pub room-enough : inputNumber r es ls bars ≡ 0 → LINE * (r .count + 5) ≤ bytes → conflictPageNumber r es ls bars bytes ≡ 0
   room-enough z h = refusal-after (inputTests r es ls bars) (t15 ∷ []) (input-passed r es ls bars z) ∙ accepts (t15 ∷ []) (le-leb (LINE * (r .count + 5)) bytes h, tt)
 
-  -- The sole ground for each number: all before it hold, and its own does not.
-  pub refused-20 : conflictPageNumber r es ls bars bytes ≡ 20 ↔ (Lawful r → ⊥)
-  refused-20 = range-20 r es ls (test 13 bars ∷ t15 ∷ []) refl
-
-  pub refused-10 : conflictPageNumber r es ls bars bytes ≡ 10 ↔ (Lawful r × (CountsFit (r .count) es ls → ⊥))
-  refused-10 = range-10 r es ls (test 13 bars ∷ t15 ∷ []) refl
-
-  pub refused-3 : conflictPageNumber r es ls bars bytes ≡ 3 ↔ (Lawful r × (CountsFit (r .count) es ls × (StartsFit es ls → ⊥)))
-  refused-3 = range-3 r es ls (test 13 bars ∷ t15 ∷ []) refl
-
-  pub refused-4 : conflictPageNumber r es ls bars bytes ≡ 4 ↔ (Lawful r × (CountsFit (r .count) es ls × (StartsFit es ls × (RangesFit es ls → ⊥))))
-  refused-4 = range-4 r es ls (test 13 bars ∷ t15 ∷ []) refl
-
-  pub refused-13 : conflictPageNumber r es ls bars bytes ≡ 13 ↔ (Lawful r × (CountsFit (r .count) es ls × (StartsFit es ls × (RangesFit es ls × (bars ≡ false)))))
-  refused-13 = input-13 r es ls bars (t15 ∷ []) refl
+  -- The sole ground for each number: those of the record and its ranges, and the page's own.
+  pub sole-grounds : InputGrounds r es ls bars (conflictPageNumber r es ls bars bytes)
+  sole-grounds = input-grounds r es ls bars (t15 ∷ []) refl refl refl refl refl
 
   pub refused-15 : conflictPageNumber r es ls bars bytes ≡ 15 ↔ ((AcceptedInput r es ls × (bars ≡ true)) × (LINE * (r .count + 5) ≤ bytes → ⊥))
   refused-15 = more-refused (inputTests r es ls bars) t15 (passed-input r es ls bars) room-is refl refl

@@ -2,14 +2,14 @@
 use mathlib.Core.Path.{_≡_, refl, sym, ap, subst, _∙_}
 use mathlib.Core.Bool.{Bool}
 use mathlib.Core.Logic.{inl, inr}
-use mathlib.Core.List.{List}
+use mathlib.Core.List.{List, []}
 use Prim.Native.Nat.{ℕ, _-_, _≤_, _<_}
 use native.Mathlib.Omega.{arith}
 use native.Mathlib.Decide.{ℕ-discrete}
 use lib.IntN.{ℤ}
 use lib.ListN.{length}
 use lib.Signed.{_<ℤ_}
-use Rattle.integers.specs.Answers.{Answer}
+use Rattle.integers.specs.Answers.{Answer, answered}
 use Rattle.integers.specs.Limits.{TASKS, U32MAX}
 use Rattle.integers.specs.Moments.{moment, zeroAt}
 use Rattle.scheduling.specs.Scheduling.{whole, natural, Tasks, TaskSet, Overloads, EdgeFindingBound}
@@ -31,13 +31,15 @@ use Rattle.overload_test.specs.Tested.{OverloadTested}
 use Rattle.conflicts.specs.declared.answer.Found.{Found}
 use Rattle.conflicts.specs.declared.answer.Found.the-variants.{NothingFound, Overload, Late, Refused}
 use Rattle.conflicts.specs.declared.answer.Conflict.{Conflict}
+use Rattle.conflicts.specs.declared.task_moments.TaskMoments.{TaskMoments}
 use Rattle.conflicts.specs.Answers.{noConflict}
+use Rattle.conflicts.specs.HeldTasks.{HoldsTasks, Overloadable}
 use Rattle.conflicts.specs.ConflictOf.{overloadingSet, overloadBy, lateIn, lastPost, lateBy, conflictBy, conflictOf}
 use Rattle.conflicts.specs.Conflicts.{OverloadRight, LateRight, ConflictFound}
 use Rattle.conflicts.proofs.LastPosts.{right, sets, some-post, no-run-overload}
 use Rattle.conflicts.proofs.LateSets.{late-right}
 use Rattle.overload_test.proofs.FirstOverload.{never-refuses}
-use Rattle.conflicts.proofs.OverloadingSets.{read-over}
+use Rattle.conflicts.proofs.OverloadingSets.{read-over, overloadable}
 use Rattle.conflicts.proofs.WholeSets.{overload-right}
 
 -- two answers of different kinds
@@ -54,7 +56,7 @@ found-in : {c d : Conflict} → c ≡ d → c .found ≡ d .found
 found-in e = ap (λ (c : Conflict). c .found) e
 
 -- where the overload test answers, nothing refused the input
-pub not-refused : {before : DisjunctivePropagator} {es ls : List ℤ} {bars : Bool} {o : tests.Overload} → OverloadTested before es ls bars o → overloadNumbers o .number ≡ 0
+not-refused : {before : DisjunctivePropagator} {es ls : List ℤ} {bars : Bool} {o : tests.Overload} → OverloadTested before es ls bars o → overloadNumbers o .number ≡ 0
     → inputNumber before es ls bars ≡ 0
 not-refused {before} {es} {ls} {bars} t z = elim (ℕ-discrete (inputNumber before es ls bars) 0)
     [ yes e ↦ e | no h ↦ sym (ap (λ (x : Answer). x .number) (t .refused h)) ∙ z ]
@@ -151,10 +153,10 @@ module _ (before : DisjunctivePropagator) (es ls : List ℤ) (bars : Bool) (acce
   -- Which of them it is --------------------------------------------------------------------------------------------------------
 
   module _ (c : Conflict) (is : c ≡ conflictOf before es ls) where
-    pub where-yes : (k : ℕ) → answerOf J ≡ test.Yes k → ConflictFound before es ls bars c
+    where-yes : (k : ℕ) → answerOf J ≡ test.Yes k → ConflictFound before es ls bars c
     where-yes k e = by-overload c is (overloadingSet J k) (read-over J (proper before es ls a long) k e) (is ∙ ap (conflictBy before es ls) e)
 
-    pub where-no : answerOf J ≡ test.No → ((Ω : TaskSet) → Overloads Z Ω → ⊥) → ConflictFound before es ls bars c
+    where-no : answerOf J ≡ test.No → ((Ω : TaskSet) → Overloads Z Ω → ⊥) → ConflictFound before es ls bars c
     where-no e none = by (traceOf before es ls .end) refl (is ∙ ap (conflictBy before es ls) e)
       where
         by : (x : End) → traceOf before es ls .end ≡ x → c ≡ lateBy before es ls (traceOf before es ls .end) → ConflictFound before es ls bars c
@@ -169,3 +171,42 @@ module _ (before : DisjunctivePropagator) (es ls : List ℤ) (bars : Bool) (acce
             by-late c is none (p .task) (p .bound) edge passes (found-in shown)
             (subst (λ (d : Conflict). LateRight Z d (p .task) (Z .latest (p .task)) (p .bound)) (sym shown)
             (late-right Z (proper-whole before es ls a long) (above before es ls a long) few fits p (sets before es ls a long (length (traceOf before es ls .posts) - 1) last) edge passes))
+
+-- The same by what the overload test has answered.
+module _ (before : DisjunctivePropagator) (es ls : List ℤ) (bars : Bool) (long : length (before .durations) ≡ TASKS) {o : tests.Overload} (t : OverloadTested before es ls bars o) where
+  passed : overloadNumbers o .number ≡ 0 → inputNumber before es ls bars ≡ 0
+  passed z = not-refused t z
+
+  pub held : overloadNumbers o .number ≡ 0 → AcceptedInput before es ls
+  held z = accepted-input before es ls bars .0 (passed z) .0
+
+  module _ (k : ℕ) (e : o ≡ test.Yes k) where
+    zero : overloadNumbers o .number ≡ 0
+    zero = ap (λ (x : tests.Overload). overloadNumbers x .number) e
+
+    yes : answerOf (momentsIn before es ls) ≡ test.Yes k
+    yes = sym (t .answer (passed zero)) ∙ e
+
+    pub yes-held : AcceptedInput before es ls
+    yes-held = held zero
+
+    module _ {m : TaskMoments} (h : HoldsTasks (momentsIn before es ls) m) where
+      pub yes-able : Overloadable m k
+      yes-able = overloadable (momentsIn before es ls) h k yes
+
+      pub when-yes : (c : Conflict) → ((g : Overloadable m k) → c ≡ overloadBy (g .J) (overloadingSet (g .J) k)) → ConflictFound before es ls bars c
+      unfolding yes-able
+      when-yes c d = where-yes before es ls bars (passed zero) long c (d yes-able ∙ sym (ap (conflictBy before es ls) yes)) k yes
+
+  module _ (e : o ≡ test.No) where
+    none : overloadNumbers o ≡ answered 1 []
+    none = ap overloadNumbers e
+
+    pub no-held : AcceptedInput before es ls
+    no-held = held (ap (λ (x : Answer). x .number) none)
+
+    pub when-no : (c : Conflict) → c ≡ lateBy before es ls (traceOf before es ls .end) → ConflictFound before es ls bars c
+    when-no c d =
+        let z = passed (ap (λ (x : Answer). x .number) none) in
+        let no : answerOf (momentsIn before es ls) ≡ test.No = sym (t .answer z) ∙ e in
+        where-no before es ls bars z long c (d ∙ sym (ap (conflictBy before es ls) no)) no (t .no z .0 none)

@@ -13,7 +13,7 @@ use Rattle.integers.specs.Moments.{zeroAt}
 use Rattle.integers.proofs.FilledLists.{filled-length, filled-at}
 use Rattle.scheduling.specs.Scheduling.{natural, Tasks, TaskSet, NonEmpty, Overloads, Atom}
 use Rattle.scheduling.proofs.Clocks.{overload←}
-use Rattle.scheduling.proofs.Sets.{_less_, less-in}
+use Rattle.scheduling.proofs.Sets.{less-in}
 use Rattle.runs.specs.declared.outcome.Outcome.{Outcome}
 use Rattle.runs.specs.declared.outcome.Outcome.the-variants.{Emptied}
 use Rattle.runs.specs.Traces.{Post, End, done, overload, emptied, Trace}
@@ -159,6 +159,6 @@ module _ (r : DisjunctivePropagator) (es ls : List ℤ) (a : AcceptedInput r es 
         known = a .counts .latest ∙ sym (count r es ls a long) ∙ h .held .count;
       }
 
-      pub is-late : {c : Conflict} → c ≡ lateIn J (lastPost r es ls .task) (getD ls (lastPost r es ls .task) (pos 0)) (lastPost r es ls .bound) (named (lastPost r es ls .reason))
+      pub is-late : {c : Conflict} → ((g : LastPosted m ls posts′ atoms′ k) → c ≡ lateIn (g .J) (g .last .task) (getD ls (g .last .task) (pos 0)) (g .last .bound) (named (g .last .reason)))
           → c ≡ lateBy r es ls (t .end)
-      is-late e = e ∙ ap (lateBy r es ls) (sym ended)
+      is-late e = e last-posted ∙ ap (lateBy r es ls) (sym ended)

@@ -1,27 +1,30 @@
 -- What refuses a fixed schedule: what holds where nothing does, the sole ground for each number, and the same where other tests follow.
-use mathlib.Core.Path.{_≡_, refl, _∙_}
-use mathlib.Core.Bool.{true, false, _&&_}
+use mathlib.Core.Path.{_≡_, refl, sym, _∙_}
+use mathlib.Core.Bool.{Bool, true, false, not, _&&_}
 use mathlib.Core.Logic.{_↔_, ⊎-elim}
 use mathlib.Core.List.{List, [], _∷_, _++_}
-use Prim.Native.Nat.{ℕ, _<_}
+use Prim.Native.Nat.{ℕ, _-_, _<_}
 use native.Mathlib.Omega.{arith}
 use lib.IntN.{ℤ, pos}
 use lib.Signed.{leZ}
-use lib.ListN.{length, getD}
+use lib.ListN.{length, getD, take}
+use borrow.Author.Tests.{not-true, not-false}
 use Rattle.integers.specs.Limits.{TASKS}
 use Rattle.integers.specs.Tests.{Test, test, allBelow, refusal, AllPassed}
 use Rattle.integers.proofs.Bools.{and-true, and-yes, and-left, and-right}
 use Rattle.integers.proofs.Ints.{ints, leZ-true, le-leZ}
-use Rattle.integers.proofs.Tests.{all-at, all-show, unused, accepts, accepted, refuses, refusal-before, refusal-after, first-refuses}
+use Rattle.integers.proofs.Tests.{all-at, all-show, unused, accepts, accepted, refusal-none, not-given, first-refuses}
 use Rattle.scheduling.specs.Scheduling.{NoOverlap}
 use Rattle.records.specs.declared.record.DisjunctivePropagator.{DisjunctivePropagator}
 use Rattle.records.specs.Records.{Lawful}
-use Rattle.records.specs.Refusals.{rangeTests, rangeNumber, CountsFit, StartsFit, RangesFit}
-use Rattle.records.proofs.RefusedRuns.{passed-ranges, range-20, range-10, range-3, range-4, range-holds, range-many}
-use Rattle.fixed_schedules.specs.FixedSchedules.{startAt, sameStart, oneStartAt, apartAt, allApart, fixedTests, fixedNumber, tasksOn, Fixed, AcceptedFixed}
+use Rattle.records.specs.Refusals.{rangeTests, rangeNumber, CountsFit, StartsFit, RangesFit, AcceptedInput}
+use Rattle.records.proofs.LastTests.{tests-first, last-refuses, last-passes}
+use Rattle.records.proofs.RefusedRuns.{passed-ranges, accepted-ranges, range-20, range-10, range-3, range-4, range-holds, range-many}
+use Rattle.fixed_schedules.specs.FixedSchedules.{startAt, sameStart, oneStartAt, apartAt, allApart, fixedTests, fixedNumber, orderOf, tasksOn, Fixed, AcceptedFixed}
 use Rattle.fixed_schedules.specs.declared.refusals.FixedOrder.{FixedOrder}
-use Rattle.fixed_schedules.specs.Neighbours.{Tested}
-use Rattle.fixed_schedules.proofs.Neighbours.{apart-read, apart-show}
+use Rattle.fixed_schedules.specs.Neighbours.{Sortable, Traversable, neighboursApart, Tested}
+use Rattle.fixed_schedules.proofs.Neighbours.{apart-read, apart-show, neighbours-are}
+use Rattle.fixed_schedules.proofs.AcceptedSchedules.{sortable, lasting, traversable}
 
 -- a schedule that a number refuses may have any order
 pub tested-not : {es : List ℤ} {m n : ℕ} {r : FixedOrder} → r .number ≡ n → (n ≡ 0 → ⊥) → n ≡ m → Tested es m r
@@ -78,20 +81,44 @@ module _ (r : DisjunctivePropagator) (es ls : List ℤ) where
   pub accepted-fixed : fixedNumber r es ls ≡ 0 ↔ AcceptedFixed r es ls
   accepted-fixed = (λ h. passed-fixed .0 (accepted (fixedTests r es ls) refl h), λ f. accepts (fixedTests r es ls) (passed-fixed .1 f))
 
-  -- what is wrong with the record or its ranges goes before
-  pub ranges-first : (rangeNumber r es ls ≡ 0 → ⊥) → fixedNumber r es ls ≡ rangeNumber r es ls
-  ranges-first h = refusal-before (rangeTests r es ls) (t14 ∷ []) h
+-- The number of the record and its ranges goes before; then neighbours in the order of starts decide for all pairs.
+module _ (r : DisjunctivePropagator) (es ls : List ℤ) {m : ℕ} (e : m ≡ rangeNumber r es ls) where
+  pub ranges-refuse : {f : FixedOrder} → (m ≡ 0 → ⊥) → f .number ≡ m → Tested es (fixedNumber r es ls) f
+  ranges-refuse not h = tested-not h not (tests-first (rangeTests r es ls) e (t14 r es ls ∷ []) not)
 
-  -- the test that is left when the record and its ranges have passed
-  module _ (p : AllPassed (rangeTests r es ls)) where
-    pub more-starts : allBelow (oneStartAt es ls) (length es) ≡ false → fixedNumber r es ls ≡ 14
-    more-starts h = refuses (rangeTests r es ls) t14 [] p (and-left (allBelow (oneStartAt es ls) (length es)) (allApart (r .durations) es (length es)) h)
+  module _ (z : m ≡ 0) where
+    held : AcceptedInput r es ls
+    held = accepted-ranges r es ls .0 (sym e ∙ z)
 
-    pub overlapping : allApart (r .durations) es (length es) ≡ false → fixedNumber r es ls ≡ 14
-    overlapping h = refuses (rangeTests r es ls) t14 [] p (and-right (allBelow (oneStartAt es ls) (length es)) (allApart (r .durations) es (length es)) h)
+    pub same-counts : length es ≡ length ls
+    same-counts = omega (arith, held .counts .earliest, held .counts .latest)
 
-    pub none-wrong : allBelow (oneStartAt es ls) (length es) ≡ true → allApart (r .durations) es (length es) ≡ true → fixedNumber r es ls ≡ 0
-    none-wrong o a = refusal-after (rangeTests r es ls) (t14 ∷ []) p ∙ accepts (t14 ∷ []) (and-yes (allBelow (oneStartAt es ls) (length es)) (allApart (r .durations) es (length es)) o a, tt)
+    pub sorts : Sortable es
+    sorts = sortable r es ls held
+
+    by-14 : {f : FixedOrder} → f .number ≡ 14 → t14 r es ls .passed ≡ false → Tested es (fixedNumber r es ls) f
+    by-14 h q = tested-not h (λ y. absurd (omega arith)) (last-refuses (rangeTests r es ls) e refl z 14 _ q)
+
+    module _ {one : Bool} (o : one ≡ allBelow (oneStartAt es ls) (length es)) where
+      pub more-starts : {f : FixedOrder} → not one ≡ true → f .number ≡ 14 → Tested es (fixedNumber r es ls) f
+      more-starts h q = by-14 q (and-left _ (allApart (r .durations) es (length es)) (sym o ∙ not-true one h))
+
+      module _ (order : List ℕ) (sorted : take (length es) order ≡ orderOf es) where
+        pub traverses : Traversable order es (r .durations)
+        traverses = traversable r es ls held order sorted
+
+        module _ {apart : Bool} (n : apart ≡ allBelow (neighboursApart order es (r .durations)) (length es - 1)) where
+          pairs : apart ≡ allApart (r .durations) es (length es)
+          pairs = n ∙ neighbours-are (r .durations) es order sorted (lasting r es ls held)
+
+          pub overlapping : {f : FixedOrder} → not apart ≡ true → f .number ≡ 14 → Tested es (fixedNumber r es ls) f
+          overlapping h q = by-14 q (and-right (allBelow (oneStartAt es ls) (length es)) _ (sym pairs ∙ not-true apart h))
+
+          pub none-wrong : not one ≡ false → not apart ≡ false → Tested es (fixedNumber r es ls) (record { number = 0; order = order })
+          none-wrong h q = record {
+            number = last-passes (rangeTests r es ls) e refl z 14 _ (and-yes _ _ (sym o ∙ not-false one h) (sym pairs ∙ not-false apart q));
+            order = λ _. sorted;
+          }
 
 -- The sole ground for each number of a schedule, which no later test has: all before it hold, and its own does not.
 pub record SoleGrounds (r : DisjunctivePropagator) (es ls : List ℤ) (number : ℕ) : Type 0 where
@@ -101,13 +128,10 @@ pub record SoleGrounds (r : DisjunctivePropagator) (es ls : List ℤ) (number : 
   pub refused-4 : number ≡ 4 ↔ (Lawful r × (CountsFit (r .count) es ls × (StartsFit es ls × (RangesFit es ls → ⊥))))
   pub refused-14 : number ≡ 14 ↔ (Lawful r × (CountsFit (r .count) es ls × (StartsFit es ls × (RangesFit es ls × (Fixed r es ls → ⊥)))))
 
--- Where other tests follow.
+-- Where other tests follow. What is wrong with the schedule goes before; where one test follows, it decides then.
 module _ (r : DisjunctivePropagator) (es ls : List ℤ) (after : List Test) where
-  pub fixed-first : (fixedNumber r es ls ≡ 0 → ⊥) → refusal (fixedTests r es ls ++ after) ≡ fixedNumber r es ls
-  fixed-first h = refusal-before (fixedTests r es ls) after h
-
-  pub fixed-then : fixedNumber r es ls ≡ 0 → refusal (fixedTests r es ls ++ after) ≡ refusal after
-  fixed-then h = refusal-after (fixedTests r es ls) after (passed-fixed r es ls .1 (accepted-fixed r es ls .0 h))
+  pub schedule-refuses : {f : FixedOrder} → Tested es (fixedNumber r es ls) f → (f .number ≡ 0 → ⊥) → Tested es (refusal (fixedTests r es ls ++ after)) f
+  schedule-refuses s not = tested-not refl not (tests-first (fixedTests r es ls) (s .number) after not)
 
   pub fixed-grounds : unused after 20 ≡ true → unused after 10 ≡ true → unused after 3 ≡ true → unused after 4 ≡ true → unused after 14 ≡ true
       → SoleGrounds r es ls (refusal (fixedTests r es ls ++ after))
@@ -118,6 +142,13 @@ module _ (r : DisjunctivePropagator) (es ls : List ℤ) (after : List Test) wher
     refused-4 = range-4 r es ls (t14 r es ls ∷ after) u4;
     refused-14 = range-holds r es ls (t14 r es ls ∷ after) refl (λ n. first-refuses (t14 r es ls) after (fixed-is r es ls (n .earliest)) u14);
   }
+
+module _ (r : DisjunctivePropagator) (es ls : List ℤ) {f : FixedOrder} (s : Tested es (fixedNumber r es ls) f) (z : f .number ≡ 0) (n : ℕ) (p : Bool) where
+  pub refused-after : {g : FixedOrder} → p ≡ false → g .number ≡ n → unused [] n ≡ true → Tested es (refusal (fixedTests r es ls ++ (test n p ∷ []))) g
+  refused-after h e u = tested-not e (λ y. not-given [] n u (refusal-none ∙ sym y)) (last-refuses (fixedTests r es ls) (s .number) refl z n p h)
+
+  pub passed-after : p ≡ true → Tested es (refusal (fixedTests r es ls ++ (test n p ∷ []))) f
+  passed-after h = record { number = z ∙ last-passes (fixedTests r es ls) (s .number) refl z n p h; order = λ _. s .order (sym (s .number) ∙ z) }
 
 -- more ranges than any record has tasks are refused by the number that refuses none, whatever tests follow
 pub fixed-many : (r : DisjunctivePropagator) (es ls : List ℤ) (after after′ : List Test) → TASKS < length es

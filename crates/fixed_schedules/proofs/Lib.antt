@@ -1,5 +1,5 @@
 pub mod ScheduleOrder
 pub mod Neighbours
-pub mod FixedRefused
 pub mod AcceptedSchedules
+pub mod FixedRefused
 pub mod ParameterMoments

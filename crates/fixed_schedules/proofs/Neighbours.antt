@@ -1,6 +1,6 @@
 -- Neighbours of the order that do not overlap, and no two tasks that do: one test for the other.
 use mathlib.Core.Path.{_≡_, sym, ap, _∙_}
-use mathlib.Core.Bool.{Bool, true, false, _||_}
+use mathlib.Core.Bool.{Bool, true, _||_}
 use mathlib.Core.Logic.{_⊎_, inl, inr, ⊎-elim}
 use mathlib.Core.List.{List}
 use Prim.Native.Nat.{ℕ, _+_, _-_, _≤_, _<_}
@@ -91,14 +91,10 @@ module _ (ds : List ℕ) (es : List ℤ) where
           same s r z = let o = ordered es in omega (arith, o .back s (omega arith), o .back (s + 1) r, ap (index (orderOf es)) z)
 
   pub same-test : ((k : ℕ) → k < length es → 1 ≤ getD ds k 0) → allBelow (neighboursApart (orderOf es) es ds) (length es - 1) ≡ allApart ds es (length es)
-  same-test lasts = by (bool (allBelow (neighboursApart (orderOf es) es ds) (length es - 1))) (bool (allApart ds es (length es)))
-    where
-      by : (allBelow (neighboursApart (orderOf es) es ds) (length es - 1) ≡ true) ⊎ (allBelow (neighboursApart (orderOf es) es ds) (length es - 1) ≡ false) → (allApart ds es (length es) ≡ true)
-          ⊎ (allApart ds es (length es) ≡ false)
-          → allBelow (neighboursApart (orderOf es) es ds) (length es - 1) ≡ allApart ds es (length es)
-      by (inl y) z = y ∙ sym (neighbours-then-all y)
-      by (inr y) (inl z) = clash (all-then-neighbours lasts z) y
-      by (inr y) (inr z) = y ∙ sym z
+  same-test lasts = elim (bool (allBelow (neighboursApart (orderOf es) es ds) (length es - 1))) [
+    | inl y ↦ y ∙ sym (neighbours-then-all y)
+    | inr y ↦ elim (bool (allApart ds es (length es))) [ inl z ↦ clash (all-then-neighbours lasts z) y | inr z ↦ y ∙ sym z ]
+  ]
 
   -- the same of an array that has the order in its first places
   pub neighbours-are : (order : List ℕ) → take (length es) order ≡ orderOf es → ((k : ℕ) → k < length es → 1 ≤ getD ds k 0)
@@ -109,6 +105,4 @@ module _ (ds : List ℕ) (es : List ℤ) where
       here t q = sym (getD-take (length es) order t 0 q) ∙ ap (λ (l : List ℕ). getD l t 0) e
 
       agree : (t : ℕ) → t < length es - 1 → neighboursApart order es ds t ≡ neighboursApart (orderOf es) es ds t
-      agree t q =
-          ap (λ (k : ℕ). leZ (endAt ds es k) (startAt es (getD order (t + 1) 0))) (here t (omega arith))
-          ∙ ap (λ (k : ℕ). leZ (endAt ds es (getD (orderOf es) t 0)) (startAt es k)) (here (t + 1) (omega arith))
+      agree t q = rw (here t (omega arith), here (t + 1) (omega arith))

@@ -1,7 +1,7 @@
 -- The order of a fixed schedule: a sort by moments is the sort by starts, and it is a permutation of the tasks.
 use mathlib.Core.Path.{_≡_, sym, ap, ap₂, _∙_}
 use mathlib.Core.Bool.{true, false}
-use mathlib.Core.Logic.{_⊎_, inl, inr}
+use mathlib.Core.Logic.{inl, inr}
 use mathlib.Core.List.{List}
 use Prim.Native.Nat.{ℕ, _+_, _≤_, _<_}
 use native.Mathlib.Omega.{arith}
@@ -29,11 +29,10 @@ use Rattle.fixed_schedules.specs.Neighbours.{Sortable}
 
 -- ---- the order of moments is that of starts
 pub moment-test : (a b : ℤ) → Above zeroAt a → Above zeroAt b → leb (moment zeroAt a) (moment zeroAt b) ≡ leZ a b
-moment-test a b p q = by (bool (leb (moment zeroAt a) (moment zeroAt b)))
-  where
-    by : (leb (moment zeroAt a) (moment zeroAt b) ≡ true) ⊎ (leb (moment zeroAt a) (moment zeroAt b) ≡ false) → leb (moment zeroAt a) (moment zeroAt b) ≡ leZ a b
-    by (inl y) = y ∙ sym (le-leZ a b (reflect zeroAt a b p q (leb-true (moment zeroAt a) (moment zeroAt b) y)))
-    by (inr y) = elim (bool (leZ a b)) [ inl z ↦ clash (le-leb (moment zeroAt a) (moment zeroAt b) (mono zeroAt a b (leZ-true a b z))) y | inr z ↦ y ∙ sym z ]
+moment-test a b p q = elim (bool (leb (moment zeroAt a) (moment zeroAt b))) [
+  | inl y ↦ y ∙ sym (le-leZ a b (reflect zeroAt a b p q (leb-true (moment zeroAt a) (moment zeroAt b) y)))
+  | inr y ↦ elim (bool (leZ a b)) [ inl z ↦ clash (le-leb (moment zeroAt a) (moment zeroAt b) (mono zeroAt a b (leZ-true a b z))) y | inr z ↦ y ∙ sym z ]
+]
 
 -- a start is at or after the moment 0, and its moment is far from the largest u32
 pub start-above : (z : ℤ) → StartFits z → Above zeroAt z

@@ -5,7 +5,8 @@ use mathlib.Core.List.{List, []}
 use Prim.Native.Nat.{ℕ, _+_, _≤_, _<_}
 use native.Mathlib.Omega.{arith}
 use lib.IntN.{ℤ, pos}
-use lib.ListN.{length, take}
+use lib.ListN.{length}
+use lib.Signed.{_≤ℤ_}
 use Rattle.integers.specs.Answers.{refusedBy}
 use Rattle.integers.specs.Limits.{TASKS}
 use Rattle.integers.specs.FilledLists.{filled, noTasks}
@@ -17,16 +18,17 @@ use Rattle.scheduling.specs.Scheduling.{whole, natural, Tasks}
 use Rattle.records.specs.declared.record.DisjunctivePropagator.{DisjunctivePropagator}
 use Rattle.records.specs.Records.{durationOf}
 use Rattle.fixed_schedules.specs.FixedSchedules.{orderOf, tasksOn, AcceptedFixed}
-use Rattle.fixed_schedules.specs.Neighbours.{inMoments}
+use Rattle.fixed_schedules.specs.Neighbours.{inMoments, Tested}
+use Rattle.fixed_schedules.specs.declared.refusals.FixedOrder.{FixedOrder}
 use Rattle.fixed_schedules.specs.Parameters.{MomentFits, LengthFits}
 use Rattle.fixed_schedules.proofs.AcceptedSchedules.{AtMoments, input-of, short, at-moments, by-moments, moment-high}
 use Rattle.fixed_schedules.proofs.ParameterMoments.{parameter-above, parameter-moment}
 use Rattle.free_starts.specs.declared.FreeStart.{FreeStart}
 use Rattle.free_starts.specs.declared.FreeStart.the-variants.{At, Refused}
 use Rattle.free_starts.specs.Numbers.{freeStartNumbers}
-use Rattle.free_starts.specs.FreeStarts.{LATEST, Free, EarliestFree, freeNumber, FreeStartFound, FreeStartAnswered}
+use Rattle.free_starts.specs.FreeStarts.{LATEST, Free, EarliestFree, freeNumber, FreeStartAnswered}
 use Rattle.free_starts.specs.StartMoments.{Searchable}
-use Rattle.free_starts.proofs.FreeStartRefused.{free-many}
+use Rattle.free_starts.proofs.FreeStartRefused.{free-many, accepted-call}
 
 -- ---- the tasks J of whole numbers, and M of their moments
 module _ (o : ℕ) (J : Tasks whole) (M : Tasks natural) (at-moments : AtMoments o J M) where
@@ -61,39 +63,54 @@ module _ (o : ℕ) (J : Tasks whole) (M : Tasks natural) (at-moments : AtMoments
         e .none-before (moment o u) (mono o t u h) (omega (arith, mono< o u (instant o m) q (instant-above o m) l, moment-instant o m)) (free-down d u q f));
   }
 
--- ---- an accepted call
-module _ (r : DisjunctivePropagator) (es ls : List ℤ) (t d : ℤ) (a : AcceptedFixed r es ls) (q : LengthFits d × MomentFits t) (starts : List ℕ) (s : starts ≡ filled (momentAt es) (length es) noTasks)
-    (from lasting : ℕ) (m : from ≡ moment zeroAt t) (p : pos lasting ≡ d) where
-  -- the pass may start
-  pub searchable : (order : List ℕ) → take (length es) order ≡ orderOf es → Searchable (r .count) order starts (r .durations) from lasting
-  unfolding up dn
-  searchable order e = record {
-    few = a .lawful .few;
-    place = index (orderOf es);
-    by-start = by-moments r es ls (input-of a) starts s order e;
-    ends = λ k l. omega (arith, moment-high r es ls (input-of a) starts s k l, short r es ls (input-of a) k (omega (arith, a .counts .earliest)));
-    moment = omega (arith, parameter-moment t (q .1));
-    duration = omega (ints, q .0 .high);
-  }
+-- ---- a call by the number and the order that its refusal answers; u and v are its moment and its length as the machine hands them on
+module _ (r : DisjunctivePropagator) (es ls : List ℤ) (u v : ℤ) {f : FixedOrder} (o : Tested es (freeNumber r es ls u v) f) where
+  pub refused : (t d : ℤ) (m : ℕ) → m ≡ f .number → (m ≡ 0 → ⊥) → u ≡ t → v ≡ d → FreeStartAnswered r es ls t d (Refused m)
+  refused t d m e not p q =
+      let n : m ≡ freeNumber r es ls t d = rw (p, q) at (e ∙ o .number) in
+      record { refused = λ _. ap refusedBy n; found = λ z. absurd (not (n ∙ z)) }
 
-  -- and what it finds is the answer
-  pub found : (free : ℕ) → EarliestFree (inMoments (r .count) starts (r .durations)) from lasting free → free ≤ zeroAt + LATEST → (x : ℤ) → x ≡ instant zeroAt free → FreeStartFound r es ls t d (At x)
-  unfolding up dn
-  found free e l x z = record {
-    start = instant zeroAt free;
-    answer = ap (λ (s : ℤ). freeStartNumbers (At s)) z;
-    earliest = subst (λ (n : ℕ). EarliestFree (tasksOn r es ls) t n (instant zeroAt free)) (ap durationOf p)
-        (earliest-up zeroAt (tasksOn r es ls) (inMoments (r .count) starts (r .durations)) (at-moments r es ls (input-of a) starts s) t lasting free (parameter-above t (q .1)) (rw m at e));
-    limit = omega (ints, at-moment zeroAt (instant zeroAt free) (instant-above zeroAt free), moment-instant zeroAt free);
-  }
+  module _ (z : f .number ≡ 0) where
+    held : AcceptedFixed r es ls × (LengthFits v × MomentFits u)
+    held = accepted-call r es ls u v .0 (sym (o .number) ∙ z)
 
--- ---- the call
-module _ (r : DisjunctivePropagator) (es ls : List ℤ) (t d : ℤ) where
-  pub refused : (m : ℕ) → m ≡ freeNumber r es ls t d → (m ≡ 0 → ⊥) → FreeStartAnswered r es ls t d (Refused m)
-  refused m e not = record { refused = λ _. ap refusedBy e; found = λ z. absurd (not (e ∙ z)) }
+    pub few-starts : length es ≤ TASKS
+    few-starts = omega (arith, held .0 .counts .earliest, held .0 .lawful .few)
 
-  pub answered : (x : FreeStart) → freeNumber r es ls t d ≡ 0 → FreeStartFound r es ls t d x → FreeStartAnswered r es ls t d x
-  answered x z f = record { refused = λ not. absurd (not z); found = λ _. f }
+    pub lasts : pos 0 ≤ℤ v
+    unfolding up dn
+    lasts = omega (ints, held .1 .0 .low)
+
+    module _ (starts : List ℕ) (s : starts ≡ filled (momentAt es) (length es) noTasks) (from lasting : ℕ) (m : from ≡ moment zeroAt u) (p : pos lasting ≡ v) where
+      -- the pass may start
+      pub searchable : Searchable (r .count) (f .order) starts (r .durations) from lasting
+      unfolding up dn
+      searchable = record {
+        few = held .0 .lawful .few;
+        place = index (orderOf es);
+        by-start = by-moments r es ls (input-of (held .0)) starts s (f .order) (o .order (sym (o .number) ∙ z));
+        ends = λ k l. omega (arith, moment-high r es ls (input-of (held .0)) starts s k l, short r es ls (input-of (held .0)) k (omega (arith, held .0 .counts .earliest)));
+        moment = omega (arith, parameter-moment u (held .1 .1));
+        duration = omega (ints, held .1 .0 .high);
+      }
+
+      -- and what it finds is the answer
+      pub found : (t d x : ℤ) {y : ℤ} (free : ℕ) → u ≡ t → v ≡ d → EarliestFree (inMoments (r .count) starts (r .durations)) from lasting free → free ≤ zeroAt + LATEST
+          → y ≡ instant zeroAt free
+          → x ≡ y
+          → FreeStartAnswered r es ls t d (At x)
+      unfolding up dn
+      found t d x free i j e l g h = rw (← i, ← j) (record {
+        refused = λ not. absurd (not (sym (o .number) ∙ z));
+        found = λ _. record {
+          start = instant zeroAt free;
+          answer = ap (λ (s : ℤ). freeStartNumbers (At s)) (h ∙ g);
+          earliest = subst (λ (n : ℕ). EarliestFree (tasksOn r es ls) u n (instant zeroAt free)) (ap durationOf p)
+              (earliest-up zeroAt (tasksOn r es ls) (inMoments (r .count) starts (r .durations)) (at-moments r es ls (input-of (held .0)) starts s) u lasting free
+              (parameter-above u (held .1 .1)) (rw m at e));
+          limit = omega (ints, at-moment zeroAt (instant zeroAt free) (instant-above zeroAt free), moment-instant zeroAt free);
+        };
+      })
 
 -- too many ranges are refused as none are
 pub too-many : (r : DisjunctivePropagator) (es ls : List ℤ) (t d : ℤ) (x : FreeStart) → TASKS < length es → FreeStartAnswered r [] [] t d x → FreeStartAnswered r es ls t d x

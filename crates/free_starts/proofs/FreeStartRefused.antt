@@ -1,6 +1,6 @@
 -- What refuses a call: what holds where nothing does, and the sole ground for each number.
-use mathlib.Core.Path.{_≡_, refl, _∙_}
-use mathlib.Core.Bool.{true, false, _&&_}
+use mathlib.Core.Path.{_≡_, refl}
+use mathlib.Core.Bool.{true, _&&_}
 use mathlib.Core.Logic.{_↔_}
 use mathlib.Core.List.{List, [], _∷_}
 use Prim.Native.Nat.{_<_}
@@ -8,13 +8,13 @@ use lib.IntN.{ℤ}
 use lib.ListN.{length}
 use Rattle.integers.specs.Limits.{TASKS}
 use Rattle.integers.specs.Tests.{Test, test}
-use Rattle.integers.proofs.Bools.{and-true, and-yes, and-left, and-right}
-use Rattle.integers.proofs.Tests.{accepts, refuses, more-accepted, more-refused}
+use Rattle.integers.proofs.Bools.{and-true, and-yes}
+use Rattle.integers.proofs.Tests.{more-accepted, more-refused}
 use Rattle.records.specs.declared.record.DisjunctivePropagator.{DisjunctivePropagator}
-use Rattle.fixed_schedules.specs.FixedSchedules.{fixedTests, fixedNumber, AcceptedFixed}
+use Rattle.fixed_schedules.specs.FixedSchedules.{fixedTests, AcceptedFixed}
 use Rattle.fixed_schedules.specs.Parameters.{momentFits, lengthFits, MomentFits, LengthFits}
 use Rattle.fixed_schedules.proofs.ParameterMoments.{moment-is, length-is}
-use Rattle.fixed_schedules.proofs.FixedRefused.{fixed-first, fixed-then, SoleGrounds, fixed-grounds, fixed-many, passed-fixed}
+use Rattle.fixed_schedules.proofs.FixedRefused.{SoleGrounds, fixed-grounds, fixed-many, passed-fixed}
 use Rattle.free_starts.specs.FreeStarts.{freeNumber}
 
 module _ (r : DisjunctivePropagator) (es ls : List ℤ) (t d : ℤ) where
@@ -31,21 +31,6 @@ module _ (r : DisjunctivePropagator) (es ls : List ℤ) (t d : ℤ) where
   -- nothing refuses the call
   pub accepted-call : freeNumber r es ls t d ≡ 0 ↔ (AcceptedFixed r es ls × (LengthFits d × MomentFits t))
   accepted-call = more-accepted (fixedTests r es ls) t18 (passed-fixed r es ls) parameters-fit refl refl
-
-  -- what is wrong with the schedule goes before
-  pub schedule-first : (fixedNumber r es ls ≡ 0 → ⊥) → freeNumber r es ls t d ≡ fixedNumber r es ls
-  schedule-first h = fixed-first r es ls (t18 ∷ []) h
-
-  -- the test that is left when the schedule has passed
-  module _ (z : fixedNumber r es ls ≡ 0) where
-    pub wrong-length : lengthFits d ≡ false → freeNumber r es ls t d ≡ 18
-    wrong-length h = fixed-then r es ls (t18 ∷ []) z ∙ refuses [] t18 [] tt (and-left (lengthFits d) (momentFits t) h)
-
-    pub wrong-moment : momentFits t ≡ false → freeNumber r es ls t d ≡ 18
-    wrong-moment h = fixed-then r es ls (t18 ∷ []) z ∙ refuses [] t18 [] tt (and-right (lengthFits d) (momentFits t) h)
-
-    pub none-wrong : lengthFits d ≡ true → momentFits t ≡ true → freeNumber r es ls t d ≡ 0
-    none-wrong p q = fixed-then r es ls (t18 ∷ []) z ∙ accepts (t18 ∷ []) (and-yes (lengthFits d) (momentFits t) p q, tt)
 
   -- The sole ground for each number: those of the schedule, and the call's own.
   pub sole-grounds : SoleGrounds r es ls (freeNumber r es ls t d)

@@ -17,9 +17,10 @@ use Rattle.integers.proofs.Permutations.{has-here, has-later}
 use Rattle.integers.specs.Texts.{bytesOf}
 use Rattle.records.specs.declared.record.DisjunctivePropagator.{DisjunctivePropagator}
 use Rattle.fixed_schedules.specs.FixedSchedules.{startAt, endAt, orderOf}
-use Rattle.fixed_schedules.specs.Neighbours.{Sortable}
+use Rattle.fixed_schedules.specs.Neighbours.{Sortable, Traversable, Tested}
+use Rattle.fixed_schedules.specs.declared.refusals.FixedOrder.{FixedOrder}
 use Rattle.fixed_schedules.proofs.ScheduleOrder.{ordered, order-length, order-permutes}
-use Rattle.fixed_schedules.proofs.AcceptedSchedules.{input-of, sortable, short}
+use Rattle.fixed_schedules.proofs.AcceptedSchedules.{input-of, sortable, short, traversable}
 use Rattle.text.specs.DecimalText.{Puts}
 use Rattle.text.proofs.PutBytes.{puts-append}
 use Rattle.pages.specs.Lines.{LINE, heading}
@@ -59,14 +60,7 @@ module _ (f : ℕ → List ℕ) where
   pub puts-next : {first second third : List ℕ} {from at next : ℕ} (order : List ℕ) (i : ℕ) → i < length order → Puts first second from (flatMap f (take i order)) at
       → Puts second third at (f (getD order i 0)) next
       → Puts first third from (flatMap f (take (i + 1) order)) next
-  puts-next {first} {second} {third} {from} {at} {next} order i q p s = subst (λ (l : List ℕ). Puts first third from l next) (sym more) (puts-append p s)
-    where
-      more : flatMap f (take (i + 1) order) ≡ flatMap f (take i order) ++ f (getD order i 0)
-      more =
-          ap (λ (n : ℕ). flatMap f (take n order)) (add-one i)
-          ∙ ap (flatMap f) (take-suc order i 0 q)
-          ∙ flat-append (take i order) (getD order i 0 ∷ [])
-          ∙ ap (λ (l : List ℕ). flatMap f (take i order) ++ l) (flat-one (getD order i 0))
+  puts-next order i q p s = rw (add-one i, take-suc order i 0 q, flat-append (take i order) (getD order i 0 ∷ []), flat-one (getD order i 0)) (puts-append p s)
 
   -- ---- lines of one length, by their places, and what stands after them
   module _ (wide : ℕ) where
@@ -88,6 +82,13 @@ module _ (f : ℕ → List ℕ) where
         let e : wide * suc t ≡ length (f k) + wide * t = omega (arith, mul-suc wide t, each k (has-here k ks)) in
         rw (e, flat-front k ks rest, drop-append-add (f k) (flatMap f ks ++ rest) (wide * t)) (flat-line ks (λ j h. each j (has-later k j ks h)) rest t (omega arith))
 
+    -- after a heading of the same length
+    pub line-after : (head : List ℕ) → length head ≡ wide → (ks : List ℕ) → ((k : ℕ) → has ks k ≡ true → length (f k) ≡ wide) → (rest : List ℕ) (t : ℕ) → t < length ks
+        → take wide (drop (wide * (t + 1)) (head ++ (flatMap f ks ++ rest))) ≡ f (getD ks t 0)
+    line-after head e ks each rest t q =
+        let z : wide * (t + 1) ≡ length head + wide * t = omega (arith, add-one t, mul-suc wide t) in
+        rw (z, drop-append-add head (flatMap f ks ++ rest) (wide * t)) (flat-line ks each rest t q)
+
 -- ---- the page of an accepted input
 module _ (ds : List ℕ) (es : List ℤ) (s : Sortable es) (short : (k : ℕ) → k < length es → getD ds k 0 ≤ DURATIONS) where
   pub each-line : (k : ℕ) → k < length es → length (lineAt ds es k) ≡ LINE
@@ -102,12 +103,7 @@ module _ (ds : List ℕ) (es : List ℤ) (s : Sortable es) (short : (k : ℕ) �
   one-line-each = record {
     long = omega (arith, length-append heading (flatMap (lineAt ds es) (orderOf es)), flat-length (lineAt ds es) LINE (orderOf es) of-order, order-length es);
     first = take-at heading (flatMap (lineAt ds es) (orderOf es)) LINE refl;
-    line = λ t q.
-        (let e : LINE * (t + 1) ≡ LINE + LINE * t = omega arith in
-        ap (λ (n : ℕ). take LINE (drop n (pageOf ds es))) e
-        ∙ ap (take LINE) (drop-append-add heading (flatMap (lineAt ds es) (orderOf es)) (LINE * t))
-        ∙ ap (λ (l : List ℕ). take LINE (drop (LINE * t) l)) (sym (append-nil (flatMap (lineAt ds es) (orderOf es))))
-        ∙ flat-line (lineAt ds es) LINE (orderOf es) of-order [] t (omega (arith, order-length es)));
+    line = λ t q. rw append-nil at (line-after (lineAt ds es) LINE heading refl (orderOf es) of-order [] t (omega (arith, order-length es)));
     once = λ j k p q e. line-once j k (startAt es j) (startAt es k) (endAt ds es j) (endAt ds es k) (omega (arith, s .few)) (omega (arith, s .few)) e;
     order = ordered es;
   }
@@ -121,28 +117,32 @@ module _ (r : DisjunctivePropagator) (es ls : List ℤ) (out : List ℕ) where
     lines = λ z. absurd (not (e ∙ z));
   }
 
-  pub written : {out′ : List ℕ} (order : List ℕ) (n : ℕ) → pageNumber r es ls (length out) ≡ 0 → take (length es) order ≡ orderOf es
-      → Puts out out′ 0 (heading ++ flatMap (lineAt (r .durations) es) (take (length es) order)) n → Paged r es ls out (Written n) out′
-  written {out′} order n z e q = record {
-    refused = λ not. absurd (not z);
-    written = λ _. record {
-      answer = ap (λ (m : ℕ). pageNumbers (Written m)) size;
-      text = page .text ∙ overwrites out (pageOf (r .durations) es) (omega (arith, one .long, a .schedule .counts .earliest, a .room));
-    };
-    lines = λ _. one;
-  }
-    where
-      a : AcceptedPage r es ls (length out)
-      a = accepted-page r es ls (length out) .0 z
+  -- where no test fails, the order and the room are what the lines ask for, and the lines are the page
+  module _ {f : FixedOrder} (t : Tested es (pageNumber r es ls (length out)) f) (z : f .number ≡ 0) where
+    held : AcceptedPage r es ls (length out)
+    held = accepted-page r es ls (length out) .0 (sym (t .number) ∙ z)
 
-      one : OneLineEach (r .durations) es (pageOf (r .durations) es)
-      one = one-line-each (r .durations) es (sortable r es ls (input-of (a .schedule))) (short r es ls (input-of (a .schedule)))
+    sorted : take (length es) (f .order) ≡ orderOf es
+    sorted = t .order (sym (t .number) ∙ z)
 
-      page : Puts out out′ 0 (pageOf (r .durations) es) n
-      page = subst (λ (l : List ℕ). Puts out out′ 0 (heading ++ flatMap (lineAt (r .durations) es) l) n) e q
+    pub able : Traversable (f .order) es (r .durations) × (LINE * (length es + 1) ≤ length out)
+    able = (traversable r es ls (input-of (held .schedule)) (f .order) sorted, omega (arith, held .room, held .schedule .counts .earliest))
 
-      size : n ≡ LINE * (r .count + 1)
-      size = omega (arith, page .end, one .long, a .schedule .counts .earliest)
+    pub written : {out′ : List ℕ} (n : ℕ) → Puts out out′ 0 (heading ++ flatMap (lineAt (r .durations) es) (take (length es) (f .order))) n → Paged r es ls out (Written n) out′
+    written {out′} n q = record {
+      refused = λ not. absurd (not (sym (t .number) ∙ z));
+      written = λ _. record {
+        answer = ap (λ (m : ℕ). pageNumbers (Written m)) (omega (arith, page .end, one .long, held .schedule .counts .earliest));
+        text = page .text ∙ overwrites out (pageOf (r .durations) es) (omega (arith, one .long, held .schedule .counts .earliest, held .room));
+      };
+      lines = λ _. one;
+    }
+      where
+        one : OneLineEach (r .durations) es (pageOf (r .durations) es)
+        one = one-line-each (r .durations) es (sortable r es ls (input-of (held .schedule))) (short r es ls (input-of (held .schedule)))
+
+        page : Puts out out′ 0 (pageOf (r .durations) es) n
+        page = subst (λ (l : List ℕ). Puts out out′ 0 (heading ++ flatMap (lineAt (r .durations) es) l) n) sorted q
 
 -- too many ranges are refused as none are
 pub too-many : (r : DisjunctivePropagator) (es ls : List ℤ) (out : List ℕ) (page : Page) (out′ : List ℕ) → TASKS < length es → Paged r [] [] out page out′ → Paged r es ls out page out′

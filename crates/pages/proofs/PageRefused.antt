@@ -1,5 +1,5 @@
 -- What refuses a page: what holds where nothing does, and the sole ground for each number.
-use mathlib.Core.Path.{_≡_, refl, _∙_}
+use mathlib.Core.Path.{_≡_, refl}
 use mathlib.Core.Bool.{true}
 use mathlib.Core.Logic.{_↔_}
 use mathlib.Core.List.{List, [], _∷_}
@@ -7,13 +7,13 @@ use Prim.Native.Nat.{ℕ, _+_, _*_, _≤_, _<_}
 use lib.Dec.{leb}
 use lib.IntN.{ℤ}
 use lib.ListN.{length}
-use borrow.Author.Tests.{leb-true, le-leb, lt-leb}
+use borrow.Author.Tests.{leb-true, le-leb}
 use Rattle.integers.specs.Limits.{TASKS}
 use Rattle.integers.specs.Tests.{Test, test}
-use Rattle.integers.proofs.Tests.{accepts, refuses, more-accepted, more-refused}
+use Rattle.integers.proofs.Tests.{more-accepted, more-refused}
 use Rattle.records.specs.declared.record.DisjunctivePropagator.{DisjunctivePropagator}
-use Rattle.fixed_schedules.specs.FixedSchedules.{fixedTests, fixedNumber, AcceptedFixed}
-use Rattle.fixed_schedules.proofs.FixedRefused.{fixed-first, fixed-then, SoleGrounds, fixed-grounds, fixed-many, passed-fixed}
+use Rattle.fixed_schedules.specs.FixedSchedules.{fixedTests, AcceptedFixed}
+use Rattle.fixed_schedules.proofs.FixedRefused.{SoleGrounds, fixed-grounds, fixed-many, passed-fixed}
 use Rattle.pages.specs.Lines.{LINE}
 use Rattle.pages.specs.Pages.{pageNumber, AcceptedPage}
 
@@ -30,17 +30,6 @@ module _ (r : DisjunctivePropagator) (es ls : List ℤ) (bytes : ℕ) where
   accepted-page =
       let w = more-accepted (fixedTests r es ls) t15 (passed-fixed r es ls) room-is refl refl in
       (λ h. (let f = w .0 h in record { schedule = f .0; room = f .1 }), λ a. w .1 (a .schedule, a .room))
-
-  -- what is wrong with the schedule goes before
-  pub schedule-first : (fixedNumber r es ls ≡ 0 → ⊥) → pageNumber r es ls bytes ≡ fixedNumber r es ls
-  schedule-first h = fixed-first r es ls (t15 ∷ []) h
-
-  -- the test that is left when the schedule has passed
-  pub no-room : fixedNumber r es ls ≡ 0 → bytes < LINE * (r .count + 1) → pageNumber r es ls bytes ≡ 15
-  no-room z h = fixed-then r es ls (t15 ∷ []) z ∙ refuses [] t15 [] tt (lt-leb (LINE * (r .count + 1)) bytes h)
-
-  pub room-enough : fixedNumber r es ls ≡ 0 → LINE * (r .count + 1) ≤ bytes → pageNumber r es ls bytes ≡ 0
-  room-enough z h = fixed-then r es ls (t15 ∷ []) z ∙ accepts (t15 ∷ []) (le-leb (LINE * (r .count + 1)) bytes h, tt)
 
   -- The sole ground for each number: those of the schedule, and the call's own.
   pub sole-grounds : SoleGrounds r es ls (pageNumber r es ls bytes)

@@ -1,5 +1,5 @@
 -- Right-aligned texts: each field fits its width, and a line has its bytes.
-use mathlib.Core.Path.{_≡_, sym, ap, subst, _∙_}
+use mathlib.Core.Path.{_≡_, sym, ap, _∙_}
 use mathlib.Core.List.{List, [], _∷_, _++_, append-assoc}
 use Prim.Native.Nat.{ℕ, suc, _+_, _-_, _*_, _/_, _%_, _≤_, _<_}
 use native.Mathlib.Omega.{arith}
@@ -7,7 +7,7 @@ use native.Mathlib.Decide.{decLt}
 use lib.IntN.{ℤ, pos, negsuc, _+ℤ_}
 use lib.Signed.{_≤ℤ_}
 use lib.ListN.{length, getD, take, drop, length-append, length-replicate, replicate-append-replicate}
-use lib.Seq.{sets, sets-eq, take-at, drop-at, take-append-le}
+use lib.Seq.{sets, sets-eq, take-at, drop-at}
 use Rattle.integers.specs.Limits.{TASKS, START, DURATIONS}
 use Rattle.integers.proofs.Ints.{ints, up, dn, sumℤ, up-neg, dn-neg}
 use Rattle.integers.specs.Texts.{bytesOf}
@@ -24,23 +24,7 @@ pad-length width text h = omega (arith, length-append (spaces (width - length te
 
 pub columns-length : (number start end : List ℕ) → length number ≤ 2 → length start ≤ 11 → length end ≤ 11 → length (columns number start end) ≡ LINE
 unfolding columns bytesOf
-columns-length number start end h i j =
-    let a = padLeft 2 number in
-    let b = a ++ spaces 1 in
-    let c = b ++ padLeft 11 start in
-    let d = c ++ spaces 1 in
-    let e = d ++ padLeft 11 end in
-    omega (
-      arith,
-      pad-length 2 number h,
-      pad-length 11 start i,
-      pad-length 11 end j,
-      length-append a (spaces 1),
-      length-append b (padLeft 11 start),
-      length-append c (spaces 1),
-      length-append d (padLeft 11 end),
-      length-append e lineEnd,
-    )
+columns-length number start end h i j = simp length-append (omega (arith, pad-length 2 number h, pad-length 11 start i, pad-length 11 end j))
 
 -- ---- each field fits its width
 pub task-fits : (task : ℕ) → task < TASKS → length (decimal (pos task)) ≤ 2
@@ -78,22 +62,7 @@ read-back task h = elim (decLt task 10) [
 
 columns-front : (number start end : List ℕ) → length number ≤ 2 → take 2 (columns number start end) ≡ padLeft 2 number
 unfolding columns
-columns-front number start end h =
-    let a = padLeft 2 number in
-    let b = a ++ spaces 1 in
-    let c = b ++ padLeft 11 start in
-    let d = c ++ spaces 1 in
-    let e = d ++ padLeft 11 end in
-    let la : length a ≡ 2 = pad-length 2 number h in
-    let lb = length-append a (spaces 1) in
-    let lc = length-append b (padLeft 11 start) in
-    let ld = length-append c (spaces 1) in
-    let le = length-append d (padLeft 11 end) in
-    take-append-le 2 e lineEnd (omega arith)
-    ∙ take-append-le 2 d (padLeft 11 end) (omega arith)
-    ∙ take-append-le 2 c (spaces 1) (omega arith)
-    ∙ take-append-le 2 b (padLeft 11 start) (omega arith)
-    ∙ take-at a (spaces 1) 2 la
+columns-front number start end h = simp append-assoc (take-at (padLeft 2 number) _ 2 (pad-length 2 number h))
 
 -- tasks with the same line are one
 pub line-once : (j k : ℕ) (s t e f : ℤ) → j < TASKS → k < TASKS → lineOf j s e ≡ lineOf k t f → j ≡ k
@@ -126,23 +95,11 @@ after-spaces width text h k =
 -- the number x, written there, and the part of the text that ends with it
 pub right-aligned : {before after l : List ℕ} {at end next : ℕ} (width : ℕ) (x : ℤ) {y : ℤ} → y ≡ x → Puts (spaces 24) l 12 (decimal y) end → length (decimal x) ≤ width → width ≤ 12
     → Puts before after at (take (end - (end - width)) (drop (end - width) l)) next → Puts before after at (padLeft width (decimal x)) next
-right-aligned {before} {after} {l} {at} {end} {next} width x {y} same p h k q = subst (λ (bytes : List ℕ). Puts before after at bytes next) part q
-  where
-    ends : end ≡ 12 + length (decimal x)
-    ends = p .end ∙ ap (λ (z : ℤ). 12 + length (decimal z)) same
-
-    wide : end - (end - width) ≡ width
-    wide = omega (arith, ends)
-
-    from : end - width ≡ 12 + length (decimal x) - width
-    from = omega (arith, ends)
-
-    part : take (end - (end - width)) (drop (end - width) l) ≡ padLeft width (decimal x)
-    part =
-        ap (λ (n : ℕ). take n (drop (end - width) l)) wide
-        ∙ ap (λ (n : ℕ). take width (drop n l)) from
-        ∙ ap (λ (bytes : List ℕ). take width (drop (12 + length (decimal x) - width) bytes)) (p .text ∙ ap (λ (z : ℤ). sets (spaces 24) 12 (decimal z)) same)
-        ∙ after-spaces width (decimal x) h k
+right-aligned {end = end} width x same p h k q =
+    let r = rw same at p in
+    let wide : end - (end - width) ≡ width = omega (arith, r .end) in
+    let from : end - width ≡ 12 + length (decimal x) - width = omega (arith, r .end) in
+    rw (wide, from, r .text, after-spaces width (decimal x) h k) at q
 
 -- ---- the fields of a line, one after the other
 pub puts-line : {o₀ o₁ o₂ o₃ o₄ o₅ o₆ : List ℕ} {at a b c d e r : ℕ} (task : ℕ) (start end : ℤ) {x y z : ℤ} → x ≡ pos task → y ≡ start → z ≡ end
@@ -150,12 +107,8 @@ pub puts-line : {o₀ o₁ o₂ o₃ o₄ o₅ o₆ : List ℕ} {at a b c d e r 
     → Puts o₅ o₆ e lineEnd r
     → Puts o₀ o₆ at (lineOf task start end) r
 unfolding columns decimal
-puts-line {o₀} {o₁} {o₂} {o₃} {o₄} {o₅} {o₆} {at} {a} {b} {c} {d} {e} {r} task start end i j k p q s t u v =
-    let p′ = subst (λ (w : ℤ). Puts o₀ o₁ at (padLeft 2 (decimal w)) a) i p in
-    let s′ = subst (λ (w : ℤ). Puts o₂ o₃ b (padLeft 11 (decimal w)) c) j s in
-    let u′ = subst (λ (w : ℤ). Puts o₄ o₅ d (padLeft 11 (decimal w)) e) k u in
-    puts-append (puts-append (puts-append (puts-append (puts-append p′ q) s′) t) u′) v
+puts-line task start end i j k p q s t u v = puts-append (puts-append (puts-append (puts-append (puts-append (rw i at p) q) (rw j at s)) t) (rw k at u)) v
 
 -- a task's line, its start read back from a machine word
 pub puts-at : {before after : List ℕ} {at next : ℕ} (task d : ℕ) {x y : ℤ} → x ≡ y → Puts before after at (lineOf task x (x +ℤ pos d)) next → Puts before after at (lineOf task y (y +ℤ pos d)) next
-puts-at {before} {after} {at} {next} task d e p = subst (λ (z : ℤ). Puts before after at (lineOf task z (z +ℤ pos d)) next) e p
+puts-at task d e p = rw e at p

@@ -1,7 +1,8 @@
 -- Whether a task's bound raises it is the same in arrays, over moments and over whole numbers.
-use mathlib.Core.Path.{_≡_, sym, ap, _∙_}
+use mathlib.Core.Path.{_≡_, sym, ap₂, _∙_}
 use mathlib.Core.Bool.{Bool, true, false}
 use mathlib.Core.List.{List}
+use mathlib.Core.Option.{Option}
 use Prim.Native.Nat.{ℕ, _<_}
 use native.Mathlib.Omega.{arith}
 use lib.IntN.{ℤ}
@@ -18,10 +19,10 @@ use Rattle.precedences.specs.PredecessorArrays.{boundAt, Boundable}
 use Rattle.precedences.proofs.MomentBounds.{passes, fits}
 use Rattle.precedences.specs.Bounds.{Raises}
 
--- the test of the array's start
-pub from-start : {n : ℕ} {est lst durations : List ℕ} (f : Boundable n est lst durations) (i : ℕ) → i < n → {b : Bool} → exceeds (boundAt (f .J) i) (getD est i 0) ≡ b
+-- the test that the code makes, of the array's start
+pub from-start : {n : ℕ} {est lst durations : List ℕ} (f : Boundable n est lst durations) (i : ℕ) → i < n → {o : Option ℕ} {t b : Bool} → o ≡ boundAt (f .J) i → t ≡ exceeds o (getD est i 0) → t ≡ b
     → exceeds (boundAt (f .J) i) (f .J .earliest i) ≡ b
-from-start f i q h = ap (exceeds (boundAt (f .J) i)) (sym (f .held .start i q)) ∙ h
+from-start f i q z e h = ap₂ exceeds (sym z) (sym (f .held .start i q)) ∙ sym e ∙ h
 
 -- a record and its ranges that are accepted
 module _ (r : DisjunctivePropagator) (es ls : List ℤ) (a : AcceptedInput r es ls) (long : length (r .durations) ≡ TASKS) (i : ℕ) (q : i < r .count) where

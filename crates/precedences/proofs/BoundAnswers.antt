@@ -1,15 +1,18 @@
 -- What the bound's call answers: the bound over moments is that over whole numbers, and it holds in every schedule.
-use mathlib.Core.Path.{_≡_, refl, sym, ap, subst, _∙_}
-use mathlib.Core.Bool.{Bool, true, false}
+use mathlib.Core.Path.{_≡_, refl, sym, ap, ap₂, subst, _∙_}
+use mathlib.Core.Bool.{Bool, true, false, not}
 use mathlib.Core.Logic.{inl, inr}
 use mathlib.Core.List.{List, [], _∷_}
+use mathlib.Core.Option.{Option}
 use Prim.Native.Nat.{ℕ, _<_}
 use native.Mathlib.Omega.{arith}
 use lib.IntN.{ℤ}
 use lib.ListN.{length, getD}
+use borrow.Author.Tests.{not-true, not-false}
 use Rattle.integers.specs.Answers.{Answer, answered, refusedBy}
+use Rattle.integers.specs.FilledLists.{filled, noTasks}
 use Rattle.integers.specs.Limits.{TASKS}
-use Rattle.integers.specs.Moments.{moment, instant, zeroAt}
+use Rattle.integers.specs.Moments.{moment, instant, zeroAt, momentAt}
 use Rattle.integers.proofs.Answers.{valueAt, same-kind}
 use Rattle.integers.proofs.Bools.{bool, clash}
 use Rattle.integers.proofs.MomentSums.{mono<, instant-moment}
@@ -21,6 +24,7 @@ use Rattle.records.specs.Records.{tasksIn, momentsIn}
 use Rattle.records.specs.Refusals.{AcceptedInput}
 use Rattle.records.proofs.AcceptedTasks.{proper-whole, above}
 use Rattle.precedences.specs.PredecessorArrays.{boundAt, Boundable}
+use Rattle.precedences.proofs.AcceptedArrays.{boundable}
 use Rattle.precedences.proofs.MomentBounds.{found}
 use Rattle.precedences.proofs.Soundness.{bound-sound}
 use Rattle.precedences.specs.declared.reason.BoundAbove.{BoundAbove}
@@ -30,25 +34,29 @@ use Rattle.precedences.specs.Bounds.{RaisesTo, Raises, BoundAnswered, bo
 use Rattle.precedences.specs.ReasonArrays.{BoundLeft}
 use Rattle.precedences.proofs.BoundAbove.{from-start, among, raises-yes}
 
--- What the code answers of its arrays.
-module _ {n : ℕ} {est lst durations : List ℕ} (f : Boundable n est lst durations) (i : ℕ) (q : i < n) where
-  pub bound-left : {b : ℤ} → exceeds (boundAt (f .J) i) (getD est i 0) ≡ true → b ≡ instant zeroAt (raisedTo (getD est i 0) (boundAt (f .J) i)) → BoundLeft (f .J) i (bound.At b)
-  bound-left {b} h e = record {
-    raised = λ _. ap (λ (x : ℤ). answered 0 (x ∷ [])) (e ∙ ap (λ (s : ℕ). instant zeroAt (raisedTo s (boundAt (f .J) i))) (f .held .start i q));
-    none = λ k. clash (from-start f i q h) k;
+-- What the code answers of its arrays, by the test of the bound that it has found.
+module _ {n : ℕ} {est lst durations : List ℕ} (f : Boundable n est lst durations) (i : ℕ) (q : i < n) {o : Option ℕ} {t : Bool} (b : o ≡ boundAt (f .J) i)
+    (e : t ≡ exceeds o (getD est i 0)) where
+  pub bound-left : {x : ℤ} → not t ≡ false → x ≡ instant zeroAt (raisedTo (getD est i 0) o) → BoundLeft (f .J) i (bound.At x)
+  bound-left h z = record {
+    raised = λ _. ap (λ (x : ℤ). answered 0 (x ∷ [])) (z ∙ ap₂ (λ (s : ℕ) (o : Option ℕ). instant zeroAt (raisedTo s o)) (f .held .start i q) b);
+    none = λ k. clash (from-start f i q b e (not-false t h)) k;
   }
 
-  pub none-left : exceeds (boundAt (f .J) i) (getD est i 0) ≡ false → BoundLeft (f .J) i bound.NoBound
-  none-left h = record { raised = λ k. clash k (from-start f i q h); none = λ _. refl }
+  pub none-left : not t ≡ true → BoundLeft (f .J) i bound.NoBound
+  none-left h = record { raised = λ k. clash k (from-start f i q b e (not-true t h)); none = λ _. refl }
 
 -- The accepted call.
-module _ (r : DisjunctivePropagator) (es ls : List ℤ) (a : AcceptedInput r es ls) (long : length (r .durations) ≡ TASKS) (i : ℕ) (q : i < r .count) {x : BoundAbove}
-    (left : BoundLeft (momentsIn r es ls) i x) where
+module _ (r : DisjunctivePropagator) (es ls : List ℤ) (a : AcceptedInput r es ls) (long : length (r .durations) ≡ TASKS) {est lst : List ℕ} (e : est ≡ filled (momentAt es) (length es) noTasks)
+    (l : lst ≡ filled (momentAt ls) (length ls) noTasks) (i : ℕ) (q : i < r .count) {x : BoundAbove} (told : (f : Boundable (r .count) est lst (r .durations)) → BoundLeft (f .J) i x) where
   abbrev Z : Tasks whole
   Z = tasksIn r es ls
 
   abbrev M : Tasks natural
   M = momentsIn r es ls
+
+  left : BoundLeft M i x
+  left = told (boundable r es ls a long e l)
 
   answers-bound : (b : ℤ) → RaisesTo Z i b → boundNumbers x ≡ answered 0 (b ∷ [])
   answers-bound b w =
@@ -73,11 +81,10 @@ module _ (r : DisjunctivePropagator) (es ls : List ℤ) (a : AcceptedInput r es 
     sound = λ b e s h. bound-sound Z (proper-whole r es ls a long) s h i (among r es ls a long i q) b (is-answered b e .is-bound);
   }
 
--- The contract, of a call that is accepted, and of others.
-pub bound-given : (before : DisjunctivePropagator) (es ls : List ℤ) (bars : Bool) (task : ℕ) (x : BoundAbove) → boundNumber before es ls bars task ≡ 0 → BoundAnswered (tasksIn before es ls) task x
-    → BoundGiven before es ls bars task x
-bound-given before es ls bars task x z t = record { refused = λ h. absurd (h z); given = λ _. t }
+-- The contract, by the number that the tests answer.
+module _ (before : DisjunctivePropagator) (es ls : List ℤ) (bars : Bool) (task : ℕ) {m : ℕ} (e : m ≡ boundNumber before es ls bars task) where
+  pub bound-refused : (x : BoundAbove) → (m ≡ 0 → ⊥) → boundNumbers x ≡ refusedBy m → BoundGiven before es ls bars task x
+  bound-refused x not z = record { refused = λ _. z ∙ ap refusedBy e; given = λ k. absurd (not (e ∙ k)) }
 
-pub bound-refused : (before : DisjunctivePropagator) (es ls : List ℤ) (bars : Bool) (task : ℕ) (x : BoundAbove) → (boundNumber before es ls bars task ≡ 0 → ⊥)
-    → boundNumbers x ≡ refusedBy (boundNumber before es ls bars task) → BoundGiven before es ls bars task x
-bound-refused before es ls bars task x h z = record { refused = λ _. z; given = λ e. absurd (h e) }
+  pub bound-given : (x : BoundAbove) → m ≡ 0 → BoundAnswered (tasksIn before es ls) task x → BoundGiven before es ls bars task x
+  bound-given x z t = record { refused = λ h. absurd (h (sym e ∙ z)); given = λ _. t }

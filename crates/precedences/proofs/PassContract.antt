@@ -1,6 +1,6 @@
 -- What a pass leaves, refused, emptied or done, is what its contract says.
 use mathlib.Core.Path.{_≡_, refl, sym, ap, subst, _∙_}
-use mathlib.Core.Bool.{Bool, true}
+use mathlib.Core.Bool.{Bool}
 use mathlib.Core.List.{List}
 use mathlib.Core.Logic.{_⊎_, inl, inr}
 use Prim.Native.Nat.{ℕ, _≤_, _<_}
@@ -23,7 +23,7 @@ use Rattle.records.proofs.AcceptedTasks.{count, proper-whole, proper, above}
 use Rattle.records.proofs.RefusedRuns.{accepted-input}
 use Rattle.trees.proofs.Ects.{past-by-bound, within-bound}
 use Rattle.precedences.specs.Predecessors.{PrecedenceBound}
-use Rattle.precedences.specs.PredecessorArrays.{startAt, boundAt}
+use Rattle.precedences.specs.PredecessorArrays.{startAt, boundAt, Boundable}
 use Rattle.precedences.proofs.AcceptedArrays.{boundable}
 use Rattle.precedences.proofs.Soundness.{before-sound, bound-sound}
 use Rattle.precedences.proofs.MomentBounds.{high, passes, fits}
@@ -92,9 +92,10 @@ module _ (r : DisjunctivePropagator) (es ls : List ℤ) (a : AcceptedInput r es 
   known : {k : ℕ} → k < r .count → k < Z .count
   known q = omega (arith, count r es ls a long)
 
-  module _ {raised : List ℕ} (z : raised ≡ filled (raisedAt (momentsIn r es ls)) (r .count) noTasks) (i : ℕ) (p : FirstPast raised lst (r .count) i) where
+  module _ {raised : List ℕ} (z : (f : Boundable (r .count) est lst (r .durations)) → raised ≡ filled (raisedAt (f .J)) (r .count) noTasks) (i : ℕ) (p : FirstPast raised lst (r .count) i) where
     raised-at : (k : ℕ) → k < r .count → getD raised k 0 ≡ raisedAt M k
-    raised-at k q = ap (λ (o : List ℕ). getD o k 0) z ∙ filled-at (raisedAt M) (r .count) noTasks 0 k q (omega (arith, a .lawful .few, length-replicate {A = ℕ} TASKS 0))
+    raised-at k q = ap (λ (o : List ℕ). getD o k 0) (z (boundable r es ls a long e l))
+        ∙ filled-at (raisedAt M) (r .count) noTasks 0 k q (omega (arith, a .lawful .few, length-replicate {A = ℕ} TASKS 0))
 
     latest-at : (k : ℕ) → k < r .count → getD lst k 0 ≡ M .latest k
     latest-at k q = boundable r es ls a long e l .late .at k q
@@ -119,11 +120,14 @@ module _ (r : DisjunctivePropagator) (es ls : List ℤ) (a : AcceptedInput r es 
         starts : (k : ℕ) → k < Z .count → Largest whole (λ v. (Z .earliest k ≡ v) ⊎ PrecedenceBound Z k v) (getD es′ k (pos 0))
         starts k q = subst (Largest whole (λ v. (Z .earliest k ≡ v) ⊎ PrecedenceBound Z k v)) (sym (start-at k (small q))) (raised-is Z fine (above r es ls a long) k q)
 
--- The contract, of a record and ranges that are accepted, and of others.
-pub went : (before : DisjunctivePropagator) (es ls : List ℤ) (bars : Bool) (r : Precedences) (es′ : List ℤ) → AcceptedInput before es ls → bars ≡ true → LeftPrecedences (tasksIn before es ls) es r es′
-    → RanPrecedences before es ls bars r es′
-went before es ls bars r es′ a fit p = record { refused = λ h. absurd (h (accepted-input before es ls bars .1 (a, fit))); ran = λ _. p }
+-- The contract, by the number that the tests answer.
+module _ (before : DisjunctivePropagator) (es ls : List ℤ) (bars : Bool) {m : ℕ} (e : m ≡ inputNumber before es ls bars) where
+  pub is-refused : (r : Precedences) (es′ : List ℤ) → (m ≡ 0 → ⊥) → precedencesNumbers r ≡ refusedBy m → es′ ≡ es → RanPrecedences before es ls bars r es′
+  is-refused r es′ not z y = record { refused = λ _. record { answer = z ∙ ap refusedBy e; starts = y }; ran = λ k. absurd (not (e ∙ k)) }
 
-pub is-refused : (before : DisjunctivePropagator) (es ls : List ℤ) (bars : Bool) (r : Precedences) (es′ : List ℤ) → (inputNumber before es ls bars ≡ 0 → ⊥)
-    → precedencesNumbers r ≡ refusedBy (inputNumber before es ls bars) → es′ ≡ es → RanPrecedences before es ls bars r es′
-is-refused before es ls bars r es′ h z y = record { refused = λ _. record { answer = z; starts = y }; ran = λ e. absurd (h e) }
+  module _ (z : m ≡ 0) where
+    pub input-held : AcceptedInput before es ls
+    input-held = accepted-input before es ls bars .0 (sym e ∙ z) .0
+
+    pub went : (r : Precedences) (es′ : List ℤ) → LeftPrecedences (tasksIn before es ls) es r es′ → RanPrecedences before es ls bars r es′
+    went r es′ p = record { refused = λ h. absurd (h (sym e ∙ z)); ran = λ _. p }

@@ -1,6 +1,6 @@
 -- What the reason's call leaves, and what its reason means.
 use mathlib.Core.Path.{_≡_, refl, sym, ap, subst, _∙_}
-use mathlib.Core.Bool.{Bool, true, false}
+use mathlib.Core.Bool.{Bool, true, false, not}
 use mathlib.Core.Logic.{inl, inr}
 use mathlib.Core.List.{List, [], _∷_}
 use mathlib.Core.Option.{Option}
@@ -9,12 +9,12 @@ use native.Mathlib.Omega.{arith}
 use lib.IntN.{ℤ, pos}
 use lib.Signed.{_≤ℤ_}
 use lib.ListN.{length, getD, replicate}
-use borrow.Author.Tests.{eq-eqb}
+use borrow.Author.Tests.{not-true, not-false, eq-eqb}
 use lib.Seq.{sets}
 use Rattle.integers.specs.Answers.{answered, refusedBy}
-use Rattle.integers.specs.FilledLists.{filled}
+use Rattle.integers.specs.FilledLists.{filled, noTasks}
 use Rattle.integers.specs.Limits.{TASKS}
-use Rattle.integers.specs.Moments.{instant, zeroAt}
+use Rattle.integers.specs.Moments.{instant, zeroAt, momentAt}
 use Rattle.integers.specs.Words.{overwritten}
 use Rattle.integers.proofs.Bools.{bool, clash}
 use Rattle.integers.proofs.MomentSums.{instant-moment}
@@ -32,7 +32,7 @@ use Rattle.records.proofs.AcceptedTasks.{count, proper-whole, above}
 use Rattle.precedences.specs.Predecessors.{predecessors, AllBefore, PrecedenceBound}
 use Rattle.precedences.specs.PredecessorArrays.{startAt, precedesAt, comesBefore, boundAt, Boundable}
 use Rattle.precedences.proofs.MomentBounds.{high, same-tasks}
-use Rattle.precedences.proofs.AcceptedArrays.{chosen}
+use Rattle.precedences.proofs.AcceptedArrays.{boundable, chosen}
 use Rattle.precedences.proofs.Soundness.{all-before, bound-holds}
 use Rattle.precedences.specs.declared.reason.Reason.{Reason}
 use Rattle.precedences.specs.declared.reason.Reason.the-variants.{Written}
@@ -97,9 +97,9 @@ module _ (J : Tasks whole) (i : ℕ) (q : i < J .count) where
   explained lasts ws r ws′ w n = record { written = w; nothing = n; few = few; holds = holds; before = λ s c. first s c; sound = λ b e s c. c .consequent-not (bounded s c lasts b e) }
 
 -- where the bound raises nothing
-pub nothing-left : {n : ℕ} {est lst durations : List ℕ} (f : Boundable n est lst durations) (i : ℕ) → i < n → {l : List ℤ}
-    → exceeds (boundAt (f .J) i) (getD est i 0) ≡ false → ReasonLeft (f .J) i l 0 l
-nothing-left f i q h = record { written = λ k. clash k (from-start f i q h); nothing = λ _. (refl, refl) }
+pub nothing-left : {n : ℕ} {est lst durations : List ℕ} (f : Boundable n est lst durations) (i : ℕ) → i < n → {l : List ℤ} {o : Option ℕ} {t : Bool}
+    → o ≡ boundAt (f .J) i → t ≡ exceeds o (getD est i 0) → not t ≡ true → ReasonLeft (f .J) i l 0 l
+nothing-left f i q b e h = record { written = λ k. clash k (from-start f i q b e (not-true _ h)); nothing = λ _. (refl, refl) }
 
 -- The atoms that the arrays give.
 module _ {n : ℕ} {est lst durations : List ℕ} (f : Boundable n est lst durations) (i : ℕ) (q : i < n) {before : List Bool}
@@ -119,29 +119,31 @@ module _ {n : ℕ} {est lst durations : List ℕ} (f : Boundable n est lst durat
   pub members-fit : (size : ℕ) → 6 * n ≤ size → 3 * (1 + length (bothBounds (startAt est) (startAt lst) (memberAt before) n)) ≤ size
   members-fit size h = omega (arith, fewer (startAt est) (startAt lst) (memberAt before) i n q own-out)
 
-  pub reason-left : {l m o : List ℤ} {r : ℕ} → exceeds (boundAt (f .J) i) (getD est i 0) ≡ true → m ≡ sets l (3 * 0) (pos i ∷ pos 0 ∷ instant zeroAt (getD est i 0) ∷ [])
+  pub reason-left : {l m o : List ℤ} {r : ℕ} {b : Option ℕ} {u : Bool} → b ≡ boundAt (f .J) i → u ≡ exceeds b (getD est i 0) → not u ≡ false
+      → m ≡ sets l (3 * 0) (pos i ∷ pos 0 ∷ instant zeroAt (getD est i 0) ∷ [])
       → Stored m o 1 r (bothBounds (startAt est) (startAt lst) (memberAt before) n) → ReasonLeft (f .J) i l r o
-  reason-left {l} {m} {o} {r} h p t =
+  reason-left {l} {m} {o} {r} z g h p t =
       let s : Stored l o 0 r (atLeast i (instant zeroAt (getD est i 0)) ∷ bothBounds (startAt est) (startAt lst) (memberAt before) n) =
       stored-then (atom-stored (atLeast i (instant zeroAt (getD est i 0))) p) t in
       let own : instant zeroAt (getD est i 0) ≡ instant zeroAt (N .earliest i) = ap (instant zeroAt) (f .held .start i q) in
-      record {
-        written = λ _. subst (λ (x : ℤ). Stored l o 0 r (atLeast i x ∷ bothBounds (λ k. instant zeroAt (N .earliest k)) (λ k. instant zeroAt (N .latest k)) (comesBefore N i) (N .count))) own
-            (subst (λ (xs : List Atom). Stored l o 0 r (atLeast i (instant zeroAt (getD est i 0)) ∷ xs)) members-are s);
-        nothing = λ k. clash (from-start f i q h) k;
-      }
+      record { written = λ _. rw (own, members-are) at s; nothing = λ k. clash (from-start f i q z g (not-false _ h)) k }
 
 -- The accepted call.
-module _ (r : DisjunctivePropagator) (es ls : List ℤ) (a : AcceptedInput r es ls) (long : length (r .durations) ≡ TASKS) (i : ℕ) where
+module _ (r : DisjunctivePropagator) (es ls : List ℤ) (a : AcceptedInput r es ls) (long : length (r .durations) ≡ TASKS) {est lst : List ℕ} (e : est ≡ filled (momentAt es) (length es) noTasks)
+    (l : lst ≡ filled (momentAt ls) (length ls) noTasks) (i : ℕ) where
   abbrev Z : Tasks whole
   Z = tasksIn r es ls
 
   abbrev M : Tasks natural
   M = momentsIn r es ls
 
-  pub gave : (ws ws′ : List ℤ) (c : ℕ) → AcceptedReason r i (length ws) → ReasonLeft (momentsIn r es ls) i ws c ws′ → Explained (tasksIn r es ls) i ws (Written c) ws′
-  gave ws ws′ c b left = explained Z i q (proper-whole r es ls a long .lasts) ws (Written c) ws′ written nothing
+  pub gave : (ws ws′ : List ℤ) (c : ℕ) → AcceptedReason r i (length ws) → ((f : Boundable (r .count) est lst (r .durations)) → ReasonLeft (f .J) i ws c ws′)
+      → Explained (tasksIn r es ls) i ws (Written c) ws′
+  gave ws ws′ c b told = explained Z i q (proper-whole r es ls a long .lasts) ws (Written c) ws′ written nothing
     where
+      left : ReasonLeft M i ws c ws′
+      left = told (boundable r es ls a long e l)
+
       q : i < Z .count
       q = among r es ls a long i (b .small)
 
@@ -176,12 +178,10 @@ module _ (r : DisjunctivePropagator) (es ls : List ℤ) (a : AcceptedInput r es 
         | inr h ↦ (let w = left .nothing h in (ap (λ (n : ℕ). reasonNumbers (Written n)) (w .0), w .1))
       ]
 
--- The contract, of a call that is accepted, and of others.
-pub given : (before : DisjunctivePropagator) (es ls : List ℤ) (bars : Bool) (task : ℕ) (ws : List ℤ) (r : Reason) (ws′ : List ℤ) → reasonNumber before es ls bars task (length ws) ≡ 0
-    → Explained (tasksIn before es ls) task ws r ws′ → ReasonGiven before es ls bars task ws r ws′
-given before es ls bars task ws r ws′ z e = record { refused = λ h. absurd (h z); given = λ _. e }
+-- The contract, by the number that the tests answer.
+module _ (before : DisjunctivePropagator) (es ls : List ℤ) (bars : Bool) (task : ℕ) (ws : List ℤ) {m : ℕ} (e : m ≡ reasonNumber before es ls bars task (length ws)) where
+  pub is-refused : (r : Reason) (ws′ : List ℤ) → (m ≡ 0 → ⊥) → reasonNumbers r ≡ refusedBy m → ws′ ≡ ws → ReasonGiven before es ls bars task ws r ws′
+  is-refused r ws′ not z y = record { refused = λ _. record { answer = z ∙ ap refusedBy e; words = y }; given = λ k. absurd (not (e ∙ k)) }
 
-pub is-refused : (before : DisjunctivePropagator) (es ls : List ℤ) (bars : Bool) (task : ℕ) (ws : List ℤ) (r : Reason) (ws′ : List ℤ) → (reasonNumber before es ls bars task (length ws) ≡ 0 → ⊥)
-    → reasonNumbers r ≡ refusedBy (reasonNumber before es ls bars task (length ws)) → ws′ ≡ ws
-    → ReasonGiven before es ls bars task ws r ws′
-is-refused before es ls bars task ws r ws′ h z y = record { refused = λ _. record { answer = z; words = y }; given = λ e. absurd (h e) }
+  pub given : (r : Reason) (ws′ : List ℤ) → m ≡ 0 → Explained (tasksIn before es ls) task ws r ws′ → ReasonGiven before es ls bars task ws r ws′
+  given r ws′ z t = record { refused = λ h. absurd (h (sym e ∙ z)); given = λ _. t }

@@ -1,5 +1,5 @@
 -- More ranges than any record has tasks are refused as none are, by each call on one bound.
-use mathlib.Core.Path.{sym, ap, _∙_}
+use mathlib.Core.Path.{refl, sym, ap, _∙_}
 use mathlib.Core.Bool.{Bool}
 use mathlib.Core.List.{List, []}
 use Prim.Native.Nat.{ℕ, _<_}
@@ -21,10 +21,10 @@ pub too-many-reason : (before : DisjunctivePropagator) (es ls : List ℤ) (bars 
 too-many-reason before es ls bars bars′ task ws r ws′ many a =
     let (same, not) = input-many before es ls bars bars′ _ _ many in
     let k = a .refused (λ z. not (sym same ∙ z)) in
-    is-refused before es ls bars′ task ws r ws′ not (k .answer ∙ ap refusedBy same) (k .words)
+    is-refused before es ls bars′ task ws refl r ws′ not (k .answer ∙ ap refusedBy same) (k .words)
 
 pub too-many-bound : (before : DisjunctivePropagator) (es ls : List ℤ) (bars bars′ : Bool) (task : ℕ) (x : BoundAbove) → TASKS < length es → BoundGiven before [] [] bars task x
     → BoundGiven before es ls bars′ task x
 too-many-bound before es ls bars bars′ task x many a =
     let (same, not) = input-many before es ls bars bars′ _ _ many in
-    bound-refused before es ls bars′ task x not (a .refused (λ z. not (sym same ∙ z)) ∙ ap refusedBy same)
+    bound-refused before es ls bars′ task refl x not (a .refused (λ z. not (sym same ∙ z)) ∙ ap refusedBy same)

@@ -17,4 +17,4 @@ pub too-many : (before : DisjunctivePropagator) (es ls : List ℤ) (bars bars′
     → RanPrecedences before es ls bars′ r es
 too-many before es ls bars bars′ r es′ many a =
     let (same, not) = input-many before es ls bars bars′ [] [] many in
-    is-refused before es ls bars′ r es not (a .refused (λ z. not (sym same ∙ z)) .answer ∙ ap refusedBy same) refl
+    is-refused before es ls bars′ refl r es not (a .refused (λ z. not (sym same ∙ z)) .answer ∙ ap refusedBy same) refl

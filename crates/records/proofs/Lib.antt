@@ -3,5 +3,7 @@ pub mod UnusedPlaces
 pub mod Creation
 pub mod CreationNumbers
 pub mod RefusedRuns
+pub mod LastTests
+pub mod InputGrounds
 pub mod AcceptedTasks
 pub mod OneMore

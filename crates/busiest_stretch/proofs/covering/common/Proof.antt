@@ -15,15 +15,5 @@ some : (a b x y from to : ℕ) → from ≡ max a x → to ≡ min b y → to - 
 unfolding commonIn
 some a b x y from to e f = rw (← e, ← f)
 
-returns : tie.Need-returns
-returns c =
-    let a = c .before .before .before .args in
-    none (a .a) (a .b) (a .x) (a .y) _ _ (c .before .before .max .ensures) (c .before .min .ensures) (c .if1 .taken)
-
-returns-2 : tie.Need-returns-2
-returns-2 c =
-    let a = c .before .before .before .args in
-    some (a .a) (a .b) (a .x) (a .y) _ _ (c .before .before .max .ensures) (c .before .min .ensures)
-
 pub common-spec : {M : Type 1} → statement M
-common-spec = tie.close (tie.spec (λ c κs. search needs) (λ c κs. search needs) returns (λ c. search needs) returns-2)
+common-spec = tie.close (tie.spec (λ c κs. search needs) (λ c κs. search needs) (λ c. search (none, needs)) (λ c. search needs) (λ c. search (some, needs)))

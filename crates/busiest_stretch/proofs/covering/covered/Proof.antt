@@ -1,5 +1,5 @@
 -- The invariant: `sum` is what the first k tasks have in common with the stretch; being apart, they cover no more than w.
-use mathlib.Core.Path.{_≡_, sym, ap, _∙_}
+use mathlib.Core.Path.{_≡_, sym}
 use Prim.Native.Nat.{_-_, _≤_}
 use native.Mathlib.Omega.{arith}
 use lib.ListN.{getD}
@@ -18,9 +18,6 @@ Inv-loop starts durations n w x sum₀ k₀ sum k = (k ≤ n) × (sum ≡ total 
 abbrev μ-loop : tie.MeasureT-loop
 μ-loop starts durations n w x sum₀ k₀ sum k = n - k
 
-loop-holds : tie.Need-loop-holds Inv-loop μ-loop
-loop-holds c = (omega arith, sym (total-none (commonAt (inMoments (c .args .n) (c .args .starts .now) (c .args .durations .now)) (c .args .w) (c .args .x))))
-
 add-end : tie.Need-add-end Inv-loop μ-loop
 add-end c =
     let s = c .before .before .before .before in
@@ -31,36 +28,26 @@ add-end c =
 add-sum : tie.Need-add-sum Inv-loop μ-loop
 add-sum c =
     let s = c .before .before .before .before .before .before in
-    let l = c .before .before .before .before .before .loop in
-    record {
-      fits = omega (
-        arith,
-        l .inv .1,
-        c .common .ensures,
-        covered-short (inMoments (s .args .n) (s .args .starts .now) (s .args .durations .now)) (s .args .w) (s .args .x) (l .k) (c .before .before .before .before .loop-test .taken),
-        s .pre .0 .sum,
-      );
-    }
+    let test = c .before .before .before .before in
+    let M = inMoments (s .args .n) (s .args .starts .now) (s .args .durations .now) in
+    omega (arith, covered-short M (s .args .w) (s .args .x) (test .before .loop .k) (test .loop-test .taken), s .pre .0 .sum)
 
 loop-again : tie.Need-loop-again Inv-loop μ-loop
 loop-again c =
     let s = c .before .before .before .before .before .before in
-    let l = c .before .before .before .before .before .loop in (
-      omega (arith, c .before .before .before .before .loop-test .taken),
-      omega (arith, l .inv .1, c .common .ensures, total-more (commonAt (inMoments (s .args .n) (s .args .starts .now) (s .args .durations .now)) (s .args .w) (s .args .x)) (l .k)),
-    )
+    let k = c .before .before .before .before .before .loop .k in
+    omega (arith, total-more (commonAt (inMoments (s .args .n) (s .args .starts .now) (s .args .durations .now)) (s .args .w) (s .args .x)) k)
 
 returns : tie.Need-returns Inv-loop μ-loop
 returns c =
     let s = c .before .before in
-    let l = c .before .loop in
-    let e : l .k ≡ s .args .n = omega (arith, l .inv .0, c .loop-test .left) in
-    l .inv .1 ∙ ap (total (commonAt (inMoments (s .args .n) (s .args .starts .now) (s .args .durations .now)) (s .args .w) (s .args .x))) e
+    let e : c .before .loop .k ≡ s .args .n = omega (arith, c .before .loop .inv .0, c .loop-test .left) in
+    rw e at (c .before .loop .inv .1)
 
 pub covered-spec : {M : Type 1} → statement M
 covered-spec =
     tie.close
     (tie.spec
-    Inv-loop μ-loop loop-holds (λ c. search needs) (λ c. search needs) (λ c. search needs) (λ c. search needs) add-end
+    Inv-loop μ-loop (λ c. (omega arith, sym (total-none _))) (λ c. search needs) (λ c. search needs) (λ c. search needs) (λ c. search needs) add-end
     (λ c. search needs) (λ c. search needs) (λ c. search needs) (λ c κs. search needs) add-sum (λ c. search needs)
     (λ c. search needs) loop-again returns)

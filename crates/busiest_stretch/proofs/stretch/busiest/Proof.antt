@@ -26,8 +26,7 @@ loop-holds c =
     let s = c .before in
     let (k, q, e) = s .pre .1 .starts-first in (
       omega arith,
-      none-yet (inMoments (s .args .n) (s .args .starts .now) (s .args .durations .now)) (s .args .w) (s .args .first) (s .args .last) (c .covered .result) (s .args .first)
-          (record { from = omega arith; to = omega (arith, e, s .pre .1 .greatest k q); covers = sym (c .covered .ensures) }),
+      none-yet _ _ _ _ _ _ (record { from = omega arith; to = omega (arith, e, s .pre .1 .greatest k q); covers = sym (c .covered .ensures) }),
     )
 
 add-back : tie.Need-add-back Inv-loop μ-loop
@@ -49,8 +48,7 @@ loop-again c =
     let k = head .loop .k in
     let q = c .before .before .before .before .loop-test .taken in (
       omega (arith, q),
-      one-more (inMoments (s .args .n) (s .args .starts .now) (s .args .durations .now)) (s .args .w) (s .args .first) (s .args .last) _ (head .loop .inv .1)
-          (c .before .before .better .ensures) (omega (arith, s .pre .0 .low k q, s .pre .0 .length)) (c .better2 .ensures),
+      one-more _ _ _ _ _ (head .loop .inv .1) (c .before .before .better .ensures) (omega (arith, s .pre .0 .low k q, s .pre .0 .length)) (c .better2 .ensures),
     )
 
 returns : tie.Need-returns Inv-loop μ-loop
@@ -58,8 +56,7 @@ returns c =
     let s = c .before .before .before in
     let l = c .before .loop in
     let e : l .k ≡ s .args .n = omega (arith, l .inv .0, c .loop-test .left) in
-    best-of-all (inMoments (s .args .n) (s .args .starts .now) (s .args .durations .now)) (s .args .w) (s .args .first) (s .args .last) (l .best .covered) (l .best .start) (rw e at (l .inv .1))
-    (s .pre .1 .starts-first) (s .pre .1 .starts-last)
+    best-of-all _ _ _ _ _ _ (rw e at (l .inv .1)) (s .pre .1 .starts-first) (s .pre .1 .starts-last)
 
 pub busiest-spec : {M : Type 1} → statement M
 busiest-spec =

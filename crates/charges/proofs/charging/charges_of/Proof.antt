@@ -1,6 +1,6 @@
 -- The invariant: the first i places hold their charges, `sum` is their total, and it is at most 2,000 a task, so it cannot overflow.
-use mathlib.Core.Path.{_≡_, sym, ap, ap₂, subst, _∙_}
-use Prim.Native.Nat.{ℕ, _+_, _-_, _*_, _≤_}
+use mathlib.Core.Path.{_≡_, sym, ap₂, subst, _∙_}
+use Prim.Native.Nat.{_+_, _-_, _*_, _≤_}
 use native.Mathlib.Omega.{arith}
 use lib.IntN.{ℤ, pos, _+ℤ_}
 use lib.ListN.{length, getD}
@@ -45,18 +45,6 @@ cost-small c =
     let i = c .before .before .before .before .before .loop .i in
     omega (arith, cost-is c, cost-most (minutesLate (endAt (a .durations .now) (a .earliest .now) i) (getD (a .due .now) i (pos 0))))
 
-loop-holds : tie.Need-loop-holds Inv-loop μ-loop
-loop-holds c =
-    let a = c .args in
-    let f = chargeAt (a .durations .now) (a .earliest .now) (a .due .now) in
-    (omega arith, (sym (filled-none f noTasks), (sym (total-none f), omega arith)))
-
-element-copy-out-charge-of : tie.Need-element-copy-out-charge-of Inv-loop μ-loop
-element-copy-out-charge-of c = omega (arith, c .before .before .before .pre .sortable .few)
-
-shared-slice-copy-out-charge-of-2 : tie.Need-shared-slice-copy-out-charge-of-2 Inv-loop μ-loop
-shared-slice-copy-out-charge-of-2 c = omega (arith, c .before .before .before .before .pre .dues .long)
-
 charge-of-requires : tie.Need-charge-of-requires Inv-loop μ-loop
 charge-of-requires c κs =
     let s = c .before .before .before .before .before in
@@ -66,35 +54,24 @@ charge-of-requires c κs =
       subst DueFits (sym (back-of w32 (getD (s .args .due .now) i (pos 0)) (c .charge-of-arg3 .given))) (s .pre .dues .within i (omega (arith, s .pre .dues .long))),
     )
 
-array-write-out : tie.Need-array-write-out Inv-loop μ-loop
-array-write-out c = let s = c .before .before .before .before .before .before in omega (arith, s .pre .sortable .few)
-
-add-sum : tie.Need-add-sum Inv-loop μ-loop
-add-sum c = let head = c .before .before .before .before .before in record { fits = omega (arith, cost-small c, head .loop .inv .1 .1 .1, head .before .pre .sortable .few) }
-
 loop-again : tie.Need-loop-again Inv-loop μ-loop
 loop-again c =
-    let a = c .before .before .before .before .before .before .args in
     let loop = c .before .before .before .before .before .loop in
-    let f = chargeAt (a .durations .now) (a .earliest .now) (a .due .now) in (
-      omega arith,
-      (
-        filled-store f noTasks (loop .out) (loop .i) (c .charge-of .result) (loop .inv .1 .0) (cost-is c),
-        (ap₂ _+_ (loop .inv .1 .1 .0) (cost-is c) ∙ sym (total-more f (loop .i)), omega (arith, cost-small c, loop .inv .1 .1 .1)),
-      ),
-    )
+    (omega arith, (filled-store _ noTasks _ _ _ (loop .inv .1 .0) (cost-is c), (ap₂ _+_ (loop .inv .1 .1 .0) (cost-is c) ∙ sym (total-more _ _), omega (arith, cost-small c, loop .inv .1 .1 .1))))
 
 returns : tie.Need-returns Inv-loop μ-loop
 returns c =
-    let a = c .before .before .args in
-    let f = chargeAt (a .durations .now) (a .earliest .now) (a .due .now) in
-    let e : c .before .loop .i ≡ length (a .earliest .now) = omega arith in
-    record { charges = c .before .loop .inv .1 .0 ∙ ap (λ (n : ℕ). filled f n noTasks) e; sum = c .before .loop .inv .1 .1 .0 ∙ ap (total f) e }
+    let l = c .before .loop in
+    let e : l .i ≡ length (c .before .before .args .earliest .now) = omega arith in
+    record { charges = rw e at (l .inv .1 .0); sum = rw e at (l .inv .1 .1 .0) }
 
 pub charges-of-spec : {M : Type 1} → statement M
 charges-of-spec =
     tie.close
     (tie.spec
-    Inv-loop μ-loop loop-holds (λ c. search needs) (λ c. search needs) (λ c. search needs) element-copy-out-charge-of
-    (λ c. search needs) shared-slice-copy-out-charge-of-2 charge-of-requires (λ c. search needs) array-write-out
-    add-sum (λ c. search needs) (λ c. search needs) loop-again returns)
+    Inv-loop μ-loop (λ c. (omega arith, (sym (filled-none _ noTasks), (sym (total-none _), omega arith)))) (λ c. search needs) (λ c. search needs)
+    (λ c. search needs) (λ c. omega (arith, c .before .before .before .pre .sortable .few)) (λ c. search needs)
+    (λ c. omega (arith, c .before .before .before .before .pre .dues .long)) charge-of-requires (λ c. search needs)
+    (λ c. omega (arith, c .before .before .before .before .before .before .pre .sortable .few))
+    (λ c. omega (arith, cost-small c, c .before .before .before .before .before .before .pre .sortable .few)) (λ c. search needs) (λ c. search needs)
+    loop-again returns)

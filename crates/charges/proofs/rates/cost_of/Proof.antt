@@ -25,15 +25,6 @@ turn c =
     let loop = c .before .before .before .loop in
     row-turn (hoursBegun (c .before .before .before .before .args .minutes)) (loop .i) (loop .inv .0) (omega arith) (loop .inv .1 .1 .0) (loop .inv .1 .1 .1) (c .min .ensures)
 
-sub-cost : tie.Need-sub-cost Inv-loop μ-loop
-sub-cost c = turn c .up
-
-mul-cost : tie.Need-mul-cost Inv-loop μ-loop
-mul-cost c = record { fits = omega (arith, turn (c .before) .most) }
-
-add-cost : tie.Need-add-cost Inv-loop μ-loop
-add-cost c = record { fits = omega (arith, turn (c .before) .most) }
-
 loop-again : tie.Need-loop-again Inv-loop μ-loop
 loop-again c = (c .before .before .before .before .loop .inv .0, (omega arith, (turn (c .before) .next, turn (c .before) .sum)))
 
@@ -47,4 +38,5 @@ cost-of-spec =
     tie.close
     (tie.spec
     Inv-loop μ-loop (λ c. search needs) loop-holds (λ c. search needs) (λ c. search needs) (λ c κs. search needs)
-    sub-cost mul-cost add-cost (λ c. search needs) (λ c. search needs) loop-again returns)
+    (λ c. turn c .up) (λ c. omega (arith, turn (c .before) .most)) (λ c. omega (arith, turn (c .before) .most)) (λ c. search needs) (λ c. search needs)
+    loop-again returns)

@@ -46,21 +46,13 @@ put-right-requires-2 c κs =
 put-right-requires-3 : tie.Need-put-right-requires-3
 put-right-requires-3 c κs =
     let first = c .before .before .before .before .before .before .before in
-    let s = first .before .before .before .before .before in (
-      omega (arith, s .pre .0, first .put-right .ensures .1, first .put-right .kept .0),
-      rw (until-is (first .before .before .before)) (omega (arith, end-fits (s .args .latest) (s .args .duration) (s .pre .3) (s .pre .4))),
-      omega arith,
-    )
+    let s = first .before .before .before .before .before in
+    (omega (arith, s .pre .0), rw (until-is (first .before .before .before)) (omega (arith, end-fits (s .args .latest) (s .args .duration) (s .pre .3) (s .pre .4))), omega arith)
 
 put-right-requires-4 : tie.Need-put-right-requires-4
 put-right-requires-4 c κs =
-    let two = second c in
-    let one = two .before .before .before .before in
-    let s = begin c in (
-      omega (arith, s .pre .0, one .put-right .ensures .1, one .put-right .kept .0, two .put-right2 .ensures .1, two .put-right2 .kept .0),
-      rw (takes-is c) (omega (arith, count-fits (s .args .duration) (s .pre .4))),
-      omega arith,
-    )
+    let s = begin c in
+    (omega (arith, second c, s .pre .0), rw (takes-is c) (omega (arith, count-fits (s .args .duration) (s .pre .4))), omega arith)
 
 -- the four fields, and the place after them
 fields : (c : tie.After-put-right4) → let s = begin (c .before) in
@@ -78,14 +70,8 @@ fields c =
           (puts-append (rw (task-is (one .before)) at (one .put-right .ensures .0)) (rw (back (s .fits .earliest)) at (two .put-right2 .ensures .0)))
           (rw (until-is (one .before .before .before)) at (three .put-right3 .ensures .0)))
           (rw (takes-is (c .before)) at (c .put-right4 .ensures .0)),
-      omega (arith, one .put-right .ensures .1, two .put-right2 .ensures .1, three .put-right3 .ensures .1, c .put-right4 .ensures .1),
+      omega (arith, two),
     )
-
-put-bytes-requires : tie.Need-put-bytes-requires
-put-bytes-requires c κs = search needs
-
-put-bytes-requires-2 : tie.Need-put-bytes-requires-2
-put-bytes-requires-2 c κs = search needs
 
 returns : tie.Need-returns
 unfolding bytesOf
@@ -106,5 +92,5 @@ put-line-spec =
     tie.close
     (tie.spec
     (λ c κs. search needs) (λ c κs. search needs) put-right-requires put-right-requires-2 put-right-requires-3
-    (λ c κs. search needs) put-right-requires-4 (λ c. search needs) put-bytes-requires (λ c. search needs)
-    returns (λ c. search needs) put-bytes-requires-2 (λ c. search needs) returns-2)
+    (λ c κs. search needs) put-right-requires-4 (λ c. search needs) (λ c κs. search needs) (λ c. search needs)
+    returns (λ c. search needs) (λ c κs. search needs) (λ c. search needs) returns-2)

@@ -47,41 +47,20 @@ put-phrase-requires-2 c κs =
 
 put-phrase-requires-3 : tie.Need-put-phrase-requires-3
 put-phrase-requires-3 c κs =
-    let two = c .before .before .before .before in
-    let one = two .before .before .before .before .before in
-    let s = begin two in
-    (omega (arith, s .pre .1, one .put-phrase .ensures .1, one .put-phrase .kept .0), rw (back (s .fits .lct)) (lct-fits (s .args .est) (s .args .p) (s .args .lct) (s .args .excess) (s .pre .0)))
+    let s = begin (c .before .before .before .before) in
+    (omega (arith, s .pre .1), rw (back (s .fits .lct)) (lct-fits (s .args .est) (s .args .p) (s .args .lct) (s .args .excess) (s .pre .0)))
 
 put-phrase-requires-4 : tie.Need-put-phrase-requires-4
 put-phrase-requires-4 c κs =
     let two = second (c .before) in
-    let one = two .before .before .before .before .before in
-    let s = begin two in (
-      omega (arith, s .pre .1, one .put-phrase .ensures .1, one .put-phrase .kept .0, two .put-phrase2 .ensures .1, two .put-phrase2 .kept .0),
-      rw (p-is (c .before)) (count-fits (s .args .p) (s .pre .0 .short)),
-    )
+    let s = begin two in
+    (omega (arith, two, s .pre .1), rw (p-is (c .before)) (count-fits (s .args .p) (s .pre .0 .short)))
 
 put-phrase-requires-5 : tie.Need-put-phrase-requires-5
 put-phrase-requires-5 c κs =
-    let four = c .before .before .before .before .before in
-    let three = four .before .before .before .before .before .before in
-    let two = three .before .before .before .before .before in
-    let one = two .before .before .before .before .before in
-    let s = begin two in (
-      omega (
-        arith,
-        s .pre .1,
-        one .put-phrase .ensures .1,
-        one .put-phrase .kept .0,
-        two .put-phrase2 .ensures .1,
-        two .put-phrase2 .kept .0,
-        three .put-phrase3 .ensures .1,
-        three .put-phrase3 .kept .0,
-        four .put-phrase4 .ensures .1,
-        four .put-phrase4 .kept .0,
-      ),
-      rw (excess-is (c .before)) (count-fits (s .args .excess) (omega (arith, s .pre .0 .less, s .pre .0 .short))),
-    )
+    let word = c .before .before .before .before .before .before .before in
+    let s = begin (second word) in
+    (omega (arith, word, second word, s .pre .1), rw (excess-is (c .before)) (count-fits (s .args .excess) (omega (arith, s .pre .0 .less, s .pre .0 .short))))
 
 returns : tie.Need-returns
 unfolding bytesOf
@@ -98,7 +77,7 @@ returns c =
           (rw (back (s .fits .lct)) at (three .put-phrase3 .ensures .0)))
           (rw (p-is (four .before .before)) at (four .put-phrase4 .ensures .0)))
           (rw (excess-is (five .before .before)) at (five .put-phrase5 .ensures .0)),
-      omega (arith, one .put-phrase .ensures .1, two .put-phrase2 .ensures .1, three .put-phrase3 .ensures .1, four .put-phrase4 .ensures .1, five .put-phrase5 .ensures .1),
+      omega (arith, three, one),
     )
 
 pub put-overload-spec : {M : Type 1} → statement M

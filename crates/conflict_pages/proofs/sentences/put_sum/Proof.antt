@@ -63,28 +63,20 @@ put-phrase-requires-2 : tie.Need-put-phrase-requires-2
 put-phrase-requires-2 c κs =
     let one = c .before .before .before .before .before in
     let s = begin (from-1 one) in
-    (omega (arith, claim (from-1 one) .1, one .put-phrase .ensures .1, s .pre .1), rw (p-is (c .before)) (count-fits (s .args .p) (s .pre .0 .short)))
+    (omega (arith, claim (from-1 one) .1, s .pre .1), rw (p-is (c .before)) (count-fits (s .args .p) (s .pre .0 .short)))
 
 put-phrase-requires-3 : tie.Need-put-phrase-requires-3
 put-phrase-requires-3 c κs =
     let two = c .before .before .before .before in
-    let one = two .before .before .before .before .before .before in
-    let does = from-1 one in
-    let s = begin does in (
-      omega (arith, claim does .1, one .put-phrase .ensures .1, two .put-phrase2 .ensures .1, s .pre .1, one .put-phrase .kept .0),
-      rw (sum-is (number does .before .before .before)) (end-fits (s .args .est) (s .args .p) (s .pre .0 .start) (s .pre .0 .short)),
-    )
+    let does = from-2 two in
+    let s = begin does in
+    (omega (arith, claim does .1, two, s .pre .1), rw (sum-is (number does .before .before .before)) (end-fits (s .args .est) (s .args .p) (s .pre .0 .start) (s .pre .0 .short)))
 
 put-phrase-requires-4 : tie.Need-put-phrase-requires-4
 put-phrase-requires-4 c κs =
     let three = c .before .before .before .before in
-    let two = three .before .before .before .before .before in
-    let one = two .before .before .before .before .before .before in
-    let does = from-1 one in
-    let s = begin does in (
-      omega (arith, claim does .1, one .put-phrase .ensures .1, two .put-phrase2 .ensures .1, three .put-phrase3 .ensures .1, s .pre .1, one .put-phrase .kept .0, two .put-phrase2 .kept .0),
-      rw (back (s .fits .past)) (s .pre .0 .few),
-    )
+    let s = begin (from-3 three) in
+    (omega (arith, claim (from-3 three) .1, three, s .pre .1), rw (back (s .fits .past)) (s .pre .0 .few))
 
 returns : tie.Need-returns
 unfolding bytesOf
@@ -100,7 +92,7 @@ returns c =
           (puts-append (puts-append (claim does .0) (rw (back (s .fits .est)) at (one .put-phrase .ensures .0))) (rw (p-is (two .before .before)) at (two .put-phrase2 .ensures .0)))
           (rw (sum-is (number does .before .before .before)) at (three .put-phrase3 .ensures .0)))
           (rw (back (s .fits .past)) at (four .put-phrase4 .ensures .0)),
-      omega (arith, claim does .1, one .put-phrase .ensures .1, two .put-phrase2 .ensures .1, three .put-phrase3 .ensures .1, four .put-phrase4 .ensures .1),
+      omega (arith, claim does .1, two),
     )
 
 pub put-sum-spec : {M : Type 1} → statement M

@@ -39,27 +39,9 @@ names c h = record { atoms = h .last .reason; is = c .post-reason .ensures ∙ h
 abbrev set : (c : tie.After-named-by) (h : Given (c .before .before .before .before)) → HoldsSet (c .before .before .before .before .args .m) (c .named-by .result)
 set c h = record { J = h .J; Ω = named (h .last .reason); holds = h .holds; flags = c .named-by .ensures (names (c .before) h) ∙ names-hold (h .holds) (named (h .last .reason)) (h .small) }
 
-sub-last : tie.Need-sub-last
-sub-last c = c .pre .some
-
-task-word-requires : tie.Need-task-word-requires
-task-word-requires c κs = inside c
-
 nat-of-requires : tie.Need-nat-of-requires
 unfolding up dn
 nat-of-requires c κs = subst (λ (z : ℤ). pos 0 ≤ℤ z) (sym (word c (c .before .pre))) (omega ints)
-
-named-by-requires : tie.Need-named-by-requires
-named-by-requires c κs = names c (c .before .before .before .pre)
-
-mul-late : tie.Need-mul-late
-mul-late c = omega (arith, small (c .before .before), c .before .before .before .before .pre .holds .held .few)
-
-shared-slice-copy-out-late : tie.Need-shared-slice-copy-out-late
-shared-slice-copy-out-late c = omega (arith, small (c .before .before), c .before .before .before .before .pre .known)
-
-bound-word-requires : tie.Need-bound-word-requires
-bound-word-requires c κs = inside (c .before .before .before .before .before)
 
 late-requires : tie.Need-late-requires
 late-requires c κs =
@@ -83,5 +65,7 @@ pub last-posted-spec : {M : Type 1} → statement M
 last-posted-spec =
     tie.close
     (tie.spec
-    sub-last task-word-requires nat-of-requires (λ c. search needs) (λ c κs. search needs) named-by-requires mul-late
-    shared-slice-copy-out-late bound-word-requires late-requires returns)
+    (λ c. c .pre .some) (λ c κs. inside c) nat-of-requires (λ c. search needs) (λ c κs. search needs) (λ c κs. names c (c .before .before .before .pre))
+    (λ c. omega (arith, small (c .before .before), c .before .before .before .before .pre .holds .held .few))
+    (λ c. omega (arith, small (c .before .before), c .before .before .before .before .pre .known)) (λ c κs. inside (c .before .before .before .before .before))
+    late-requires returns)

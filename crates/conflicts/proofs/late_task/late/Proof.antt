@@ -1,7 +1,9 @@
 -- The definition, step by step: the others, the suffix of them that gives the bound, and the spans of the three sets.
 use mathlib.Core.Path.{ap, _∙_}
+use mathlib.Core.Bool.{false}
 use Prim.Native.Nat.{ℕ, _<_}
 use native.Mathlib.Omega.{arith}
+use lib.ListN.{set}
 use mir.Syntax.{w32}
 use borrow.Author.Needs.{needs}
 use Rattle.integers.specs.Moments.{moment, zeroAt}
@@ -28,14 +30,8 @@ before c h = let s = c .before .before in record {
       ∙ ap (λ (t : ℕ). flagsOf (h .J .count) (suffixTo (h .J) (others (h .Ω) (s .args .task)) t)) (c .before .moment-of .ensures ∙ ap (moment zeroAt) (back (s .fits .bound)));
 }
 
-array-write-others : tie.Need-array-write-others
-array-write-others c = omega (arith, small c (c .pre .0), c .pre .0 .holds .held .few)
-
-suffix-to-requires : tie.Need-suffix-to-requires
-suffix-to-requires c κs = let s = c .before in without (s .pre .0) (s .args .task) (small s (s .pre .0))
-
-span-of-requires-2 : tie.Need-span-of-requires-2
-span-of-requires-2 c κs = let s = c .before .before .before in without (s .pre .0) (s .args .task) (small s (s .pre .0))
+without-task : (s : tie.Start) → HoldsSet (s .args .m) (set (s .args .named) (s .args .task) false)
+without-task s = without (s .pre .0) (s .args .task) (small s (s .pre .0))
 
 past-requires : tie.Need-past-requires
 past-requires c κs =
@@ -44,9 +40,6 @@ past-requires c κs =
     let h = s .pre .0 in
     rw (spanned .span-of .ensures h, c .before .before .span-of2 .ensures (without h (s .args .task) (small s h)))
     (s .pre .1 .over, sum-fits (h .holds) (h .Ω) (s .args .task, s .pre .1 .task))
-
-span-of-requires-3 : tie.Need-span-of-requires-3
-span-of-requires-3 c κs = let left = c .before .before .before .before .before in before left (left .before .before .pre .0)
 
 returns : tie.Need-returns
 returns c h =
@@ -69,5 +62,6 @@ pub late-spec : {M : Type 1} → statement M
 late-spec =
     tie.close
     (tie.spec
-    array-write-others (λ c κs. search needs) suffix-to-requires (λ c κs. search needs) span-of-requires-2
-    (λ c κs. search needs) (λ c κs. search needs) past-requires span-of-requires-3 (λ c κs. search needs) returns)
+    (λ c. omega (arith, small c (c .pre .0), c .pre .0 .holds .held .few)) (λ c κs. search needs) (λ c κs. without-task (c .before)) (λ c κs. search needs)
+    (λ c κs. without-task (c .before .before .before)) (λ c κs. search needs) (λ c κs. search needs) past-requires
+    (λ c κs. (let left = c .before .before .before .before .before in before left (left .before .before .pre .0))) (λ c κs. search needs) returns)

@@ -14,7 +14,6 @@ use Rattle.runs.specs.declared.outcome.Outcome.{Outcome}
 use Rattle.runs.specs.declared.outcome.Outcome.the-variants as outcome
 use Rattle.runs.specs.Outcomes.{outcomeNumbers}
 use Rattle.propagator.specs.Ran.{Runnable}
-use Rattle.conflicts.specs.HeldTasks.{LastPosted}
 use Rattle.conflicts.proofs.LastPosts.{copy-long, copied, can-run, nothing-late, last-posted, is-late}
 use Rattle.conflicts.proofs.late_task.late_task.Statement.{statement}
 use Rattle.conflicts.proofs.late_task.late_task.Tie as tie
@@ -60,35 +59,27 @@ returns : tie.Need-returns
 returns c =
     let ran = c .before .before .before .before .before in
     let s = start ran in
-    let a = s .args in
-    c .no-conflict .ensures ∙ sym (nothing-late (a .«record») (a .earliest .now) (a .latest .now) (s .pre) (long s) (copy (made ran)) (ran .run-accepted .ensures (a .«record» .total))
+    c .no-conflict .ensures ∙ sym (nothing-late _ _ _ (s .pre) (long s) (copy (made ran)) (ran .run-accepted .ensures (s .args .«record» .total))
     (not-emptied (ran .run-accepted .result .outcome) (c .before .match .keys2)))
 
 -- where it is emptied
 abbrev ran-at : tie.After-task-moments → tie.After-run-accepted
 ran-at c = c .before .before .before .before .before .before .before
 
-abbrev last : (c : tie.After-task-moments) → let ran = ran-at c in
-    LastPosted (c .task-moments .result) (start ran .args .latest .now) (ran .run-accepted .last .1 .1 .1 .1 .0) (ran .run-accepted .last .1 .1 .1 .1 .1 .0) (c .before .before .outcome .given .0 .0)
-last c =
-    let ran = ran-at c in
-    let s = start ran in
-    let a = s .args in
-    last-posted (a .«record») (a .earliest .now) (a .latest .now) (s .pre) (long s) (copy (made ran)) (ran .run-accepted .ensures (a .«record» .total)) (c .task-moments .ensures)
-    (c .before .before .outcome .given .0 .0) (c .before .before .outcome .given .1)
-
 last-posted-requires : tie.Need-last-posted-requires
-last-posted-requires c κs = last (c .before .before)
+last-posted-requires c κs =
+    let m = c .before .before in
+    let ran = ran-at m in
+    let s = start ran in
+    last-posted _ _ _ (s .pre) (long s) (copy (made ran)) (ran .run-accepted .ensures (s .args .«record» .total)) (m .task-moments .ensures) _ (m .before .before .outcome .given .1)
 
 returns-2 : tie.Need-returns-2
 returns-2 c =
     let m = c .before .before .before in
     let ran = ran-at m in
     let s = start ran in
-    let a = s .args in
-    is-late (a .«record») (a .earliest .now) (a .latest .now) (s .pre) (long s) (copy (made ran)) (ran .run-accepted .ensures (a .«record» .total)) (m .task-moments .ensures)
-    (m .before .before .outcome .given .0 .0) (m .before .before .outcome .given .1)
-    (c .last-posted .ensures (last m))
+    is-late _ _ _ (s .pre) (long s) (copy (made ran)) (ran .run-accepted .ensures (s .args .«record» .total)) (m .task-moments .ensures) _ (m .before .before .outcome .given .1)
+    (c .last-posted .ensures)
 
 pub late-task-spec : {M : Type 1} → statement M
 late-task-spec =

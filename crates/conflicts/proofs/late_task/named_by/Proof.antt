@@ -1,5 +1,5 @@
 -- The invariant: the variables of the first k atoms are marked.
-use mathlib.Core.Path.{_≡_, sym, ap, subst, _∙_}
+use mathlib.Core.Path.{_≡_, sym, subst, _∙_}
 use Prim.Native.Nat.{_*_, _-_, _≤_, _<_}
 use native.Mathlib.Omega.{arith}
 use lib.IntN.{ℤ, pos}
@@ -8,6 +8,7 @@ use lib.Signed.{_≤ℤ_}
 use mir.Syntax.{w32}
 use mir.Val.{toZ, ofZ}
 use Rattle.integers.proofs.Ints.{up, dn, ints, back-of}
+use Rattle.integers.specs.Limits.{TASKS}
 use Rattle.conflicts.specs.HeldTasks.{NamesTasks}
 use Rattle.conflicts.proofs.MarkedNumbers.{marked, none-marked, one-marked, variables, atom-count, variable-at, variables-long, variable-known, named-marked}
 use borrow.Author.Needs.{needs}
@@ -19,9 +20,6 @@ Inv-loop reason n named₀ k₀ named k = (k ≤ n) × ((h : NamesTasks reason) 
 
 abbrev μ-loop : tie.MeasureT-loop
 μ-loop reason n named₀ k₀ named k = n - k
-
-atoms-in-requires : tie.Need-atoms-in-requires Inv-loop μ-loop
-atoms-in-requires c κs = search needs
 
 -- at an atom
 abbrev Place : Type 0
@@ -42,18 +40,12 @@ variable : (c : tie.After-nat-of Inv-loop μ-loop) (h : NamesTasks (start (c .be
     → c .nat-of .result ≡ getD (variables (h .atoms)) (c .before .before .before .loop .k) 0
 variable c h = let z : pos (c .nat-of .result) ≡ pos (getD (variables (h .atoms)) (c .before .before .before .loop .k) 0) = c .nat-of .ensures ∙ word (c .before) h in cc
 
-loop-holds : tie.Need-loop-holds Inv-loop μ-loop
-loop-holds c = (omega arith, λ h. none-marked (variables (h .atoms)))
-
-shared-slice-copy-out-nat-of : tie.Need-shared-slice-copy-out-nat-of Inv-loop μ-loop
-shared-slice-copy-out-nat-of c = let h = start c .pre in omega (arith, atom-count h, inside c h)
+known : (c : tie.After-nat-of Inv-loop μ-loop) → c .nat-of .result < TASKS
+known c = let i = c .before .before in let h = start i .pre in omega (arith, variable c h, variable-known h (i .before .loop .k) (inside i h))
 
 nat-of-requires : tie.Need-nat-of-requires Inv-loop μ-loop
 unfolding up dn
 nat-of-requires c κs = subst (λ (z : ℤ). pos 0 ≤ℤ z) (sym (word c (start (c .before) .pre))) (omega ints)
-
-array-write-named : tie.Need-array-write-named Inv-loop μ-loop
-array-write-named c = let i = c .before .before in let h = start i .pre in omega (arith, variable c h, variable-known h (i .before .loop .k) (inside i h))
 
 loop-again : tie.Need-loop-again Inv-loop μ-loop
 loop-again c =
@@ -67,12 +59,12 @@ returns : tie.Need-returns Inv-loop μ-loop
 returns c h =
     let l = c .before .loop in
     let z : l .k ≡ length (h .atoms) = omega (arith, atom-count h, c .before .before .atoms-in .ensures) in
-    l .inv .1 h ∙ ap (marked (variables (h .atoms))) z ∙ named-marked h
+    rw z at (l .inv .1 h) ∙ named-marked h
 
 pub named-by-spec : {M : Type 1} → statement M
 named-by-spec =
     tie.close
     (tie.spec
-    Inv-loop μ-loop (λ c κs. search needs) loop-holds (λ c. search needs) (λ c. search needs)
-    shared-slice-copy-out-nat-of nat-of-requires (λ c. search needs) array-write-named (λ c. search needs)
+    Inv-loop μ-loop (λ c κs. search needs) (λ c. (omega arith, λ h. none-marked (variables (h .atoms)))) (λ c. search needs) (λ c. search needs)
+    (λ c. omega (arith, atom-count (start c .pre), inside c (start c .pre))) nat-of-requires (λ c. search needs) known (λ c. search needs)
     (λ c. search needs) loop-again returns)

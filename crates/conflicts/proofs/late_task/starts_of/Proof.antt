@@ -1,8 +1,8 @@
 -- The invariant: the first k starts are copied.
-use mathlib.Core.Path.{_≡_, sym, ap, _∙_}
-use Prim.Native.Nat.{ℕ, _-_, _≤_}
+use mathlib.Core.Path.{_≡_, sym}
+use Prim.Native.Nat.{_-_, _≤_}
 use native.Mathlib.Omega.{arith}
-use lib.IntN.{ℤ, pos}
+use lib.IntN.{pos}
 use mir.Syntax.{w32}
 use lib.ListN.{length, getD, replicate}
 use Rattle.integers.specs.Limits.{TASKS}
@@ -19,28 +19,19 @@ Inv-loop earliest starts₀ k₀ starts k = (k ≤ length earliest) × (starts �
 abbrev μ-loop : tie.MeasureT-loop
 μ-loop earliest starts₀ k₀ starts k = length earliest - k
 
-abbrev copied : tie.Start Inv-loop μ-loop → ℕ → ℤ
-copied c j = getD (c .args .earliest .now) j (pos 0)
-
-loop-holds : tie.Need-loop-holds Inv-loop μ-loop
-loop-holds c = (omega arith, sym (filled-none (copied c) (replicate TASKS (pos 0))))
-
 loop-again : tie.Need-loop-again Inv-loop μ-loop
 loop-again c =
     let l = c .before .before .loop in
-    let s = c .before .before .before in
-    (omega arith, filled-store (copied s) (replicate TASKS (pos 0)) (l .starts) (l .k) _ (l .inv .1) (back-of w32 (getD (s .args .earliest .now) (l .k) (pos 0)) (c .starts .given)))
+    (omega arith, filled-store _ _ _ _ _ (l .inv .1) (back-of w32 (getD (c .before .before .before .args .earliest .now) (l .k) (pos 0)) (c .starts .given)))
 
 returns : tie.Need-returns Inv-loop μ-loop
 returns c =
-    let l = c .before .loop in
-    let s = c .before .before in
-    let e : l .k ≡ length (s .args .earliest .now) = omega arith in
-    l .inv .1 ∙ ap (λ (j : ℕ). filled (copied s) j (replicate TASKS (pos 0))) e
+    let e : c .before .loop .k ≡ length (c .before .before .args .earliest .now) = omega arith in
+    rw e at (c .before .loop .inv .1)
 
 pub starts-of-spec : {M : Type 1} → statement M
 starts-of-spec =
     tie.close
     (tie.spec
-    Inv-loop μ-loop loop-holds (λ c. search needs) (λ c. search needs) (λ c. search needs) (λ c. search needs)
+    Inv-loop μ-loop (λ c. (omega arith, sym (filled-none _ _))) (λ c. search needs) (λ c. search needs) (λ c. search needs) (λ c. search needs)
     (λ c. search needs) (λ c. search needs) loop-again returns)

@@ -20,15 +20,6 @@ Sorted = tie.After-sort-numbers Inv-loop μ-loop
 abbrev start : Sorted → tie.Start Inv-loop μ-loop
 start s = s .before .before .before .before
 
-sort-numbers-requires : tie.Need-sort-numbers-requires Inv-loop μ-loop
-sort-numbers-requires c κs = (c .before .before .before .pre .1 .held .few, refl)
-
-loop-holds : tie.Need-loop-holds Inv-loop μ-loop
-loop-holds c = (omega arith, none-marked (c .sort-numbers .last .0))
-
-array-read-j : tie.Need-array-read-j Inv-loop μ-loop
-array-read-j c = let p = start (c .before .before) .pre in omega (arith, p .2, p .1 .held .few)
-
 array-write-read : tie.Need-array-write-read Inv-loop μ-loop
 array-write-read c = let s = c .before .before in let p = start s .pre in task-known (p .0) (p .1) (s .sort-numbers .ensures) (c .before .loop .t) (omega (arith, p .2))
 
@@ -50,5 +41,6 @@ pub tasks-read-spec : {M : Type 1} → statement M
 tasks-read-spec =
     tie.close
     (tie.spec
-    Inv-loop μ-loop sort-numbers-requires loop-holds (λ c. search needs) array-read-j array-write-read
+    Inv-loop μ-loop (λ c κs. (c .before .before .before .pre .1 .held .few, refl)) (λ c. (omega arith, none-marked (c .sort-numbers .last .0)))
+    (λ c. search needs) (λ c. (let p = start (c .before .before) .pre in omega (arith, p .2, p .1 .held .few))) array-write-read
     (λ c. search needs) (λ c. search needs) loop-again returns)

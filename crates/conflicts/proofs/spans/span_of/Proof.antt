@@ -1,12 +1,10 @@
 -- The invariant: the span is that of the first k tasks.
 use mathlib.Core.Path.{_≡_, sym, ap, _∙_}
-use mathlib.Core.Bool.{false}
 use Prim.Native.Nat.{_-_, _≤_}
 use native.Mathlib.Omega.{arith}
-use lib.ListN.{getD}
 use borrow.Author.Needs.{needs}
 use Rattle.conflicts.specs.declared.spans.Span.{Span}
-use Rattle.conflicts.specs.Spans.{withTask, spanBelow}
+use Rattle.conflicts.specs.Spans.{spanBelow}
 use Rattle.conflicts.specs.HeldTasks.{HoldsSet}
 use Rattle.conflicts.proofs.SpanValues.{span-none}
 use Rattle.conflicts.proofs.HeldSets.{count, span-turn, span-fits}
@@ -31,17 +29,12 @@ with-requires c κs =
 loop-again : tie.Need-loop-again Inv-loop μ-loop
 loop-again c =
     let l = c .before .before .before .before .before .loop in
-    let a = c .before .before .before .before .before .before .args in (
-      omega arith,
-      λ h. c .with .ensures ∙ ap (withTask (getD (a .t2) (l .k) false) (getD (a .t1 .est) (l .k) 0) (getD (a .t1 .lct) (l .k) 0) (getD (a .t1 .durations) (l .k) 0)) (l .inv .1 h)
-          ∙ span-turn h (l .k) (omega arith),
-    )
+    (omega arith, λ h. rw (l .inv .1 h) at (c .with .ensures) ∙ span-turn h (l .k) (omega arith))
 
 returns : tie.Need-returns Inv-loop μ-loop
 returns c h =
-    let l = c .before .loop in
-    let e : l .k ≡ h .J .count = omega (arith, count h) in
-    l .inv .1 h ∙ ap (spanBelow (h .J) (h .Ω)) e
+    let e : c .before .loop .k ≡ h .J .count = omega (arith, count h) in
+    rw e at (c .before .loop .inv .1 h)
 
 pub span-of-spec : {M : Type 1} → statement M
 span-of-spec =

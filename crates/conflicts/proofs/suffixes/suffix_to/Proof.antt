@@ -38,33 +38,12 @@ loop-holds : tie.Need-loop-holds Inv-loop μ-loop
 loop-holds c = let a = c .before .args in
     (omega arith, λ h. subst (λ (p : ℕ). Walked h (a .moment) 0 (a .tasks) p) (sym (ap (λ (s : Span). s .p) (c .span-of .ensures h))) (begins h (a .moment)))
 
-element-copy-out-k : tie.Need-element-copy-out-k Inv-loop μ-loop
-element-copy-out-k c = omega (arith, start c .pre .holds .held .few)
-
-array-read-if1 : tie.Need-array-read-if1 Inv-loop μ-loop
-array-read-if1 c = known (c .before)
-
-mul-if2 : tie.Need-mul-if2 Inv-loop μ-loop
-mul-if2 c = omega (arith, known (c .before .before))
-
-element-copy-out-if2 : tie.Need-element-copy-out-if2 Inv-loop μ-loop
-element-copy-out-if2 c = known (c .before .before)
-
 add-if2 : tie.Need-add-if2 Inv-loop μ-loop
 add-if2 c = let i = c .before .before .before in record { fits = sum-fits (start i .pre) (start i .args .moment) (i .before .loop .x) (i .loop-test .taken) (walked i) }
 
 returns : tie.Need-returns Inv-loop μ-loop
 returns c h = let i = c .before .before .before .before in
     stops h (start i .args .moment) (i .before .loop .x) (i .loop-test .taken) (i .before .loop .inv .1 h) (c .before .before .if1 .taken) (c .if2 .taken)
-
-array-write-left : tie.Need-array-write-left Inv-loop μ-loop
-array-write-left c = known (c .before .before .before .before)
-
-mul-p : tie.Need-mul-p Inv-loop μ-loop
-mul-p c = omega (arith, known (c .before .before .before .before))
-
-element-copy-out-p : tie.Need-element-copy-out-p Inv-loop μ-loop
-element-copy-out-p c = known (c .before .before .before .before)
 
 sub-p : tie.Need-sub-p Inv-loop μ-loop
 sub-p c = let i = c .before .before .before .before .before in
@@ -89,6 +68,7 @@ pub suffix-to-spec : {M : Type 1} → statement M
 suffix-to-spec =
     tie.close
     (tie.spec
-    Inv-loop μ-loop (λ c κs. search needs) loop-holds (λ c. search needs) element-copy-out-k array-read-if1 mul-if2
-    element-copy-out-if2 add-if2 returns array-write-left mul-p element-copy-out-p sub-p (λ c. search needs)
+    Inv-loop μ-loop (λ c κs. search needs) loop-holds (λ c. search needs) (λ c. omega (arith, start c .pre .holds .held .few)) (λ c. known (c .before))
+    (λ c. omega (arith, known (c .before .before))) (λ c. known (c .before .before)) add-if2 returns (λ c. known (c .before .before .before .before))
+    (λ c. omega (arith, known (c .before .before .before .before))) (λ c. known (c .before .before .before .before)) sub-p (λ c. search needs)
     (λ c. search needs) loop-again returns-2)

@@ -25,16 +25,14 @@ lst c = c .before .before .before
 completions-requires : tie.Need-completions-requires
 completions-requires c κs =
     let s = start c in
-    let a = s .args in
-    (s .pre .lawful .few, keys-small (a .«record») (a .earliest .now) (a .latest .now) (s .pre) (long s) (est c .moments-of .ensures) (lst c .moments-of2 .ensures))
+    (s .pre .lawful .few, keys-small _ _ _ (s .pre) (long s) (est c .moments-of .ensures) (lst c .moments-of2 .ensures))
 
 returns : tie.Need-returns
 returns c =
     let made = c .before .before .before in
     let d = made .before in
     let s = start d in
-    let a = s .args in
-    holds-tasks (a .«record») (a .earliest .now) (a .latest .now) (s .pre) (long s) (est d .moments-of .ensures) (lst d .moments-of2 .ensures) (made .completions .ensures) (c .sort-numbers .ensures)
+    holds-tasks _ _ _ (s .pre) (long s) (est d .moments-of .ensures) (lst d .moments-of2 .ensures) (made .completions .ensures) (c .sort-numbers .ensures)
 
 pub task-moments-spec : {M : Type 1} → statement M
 task-moments-spec =

@@ -8,6 +8,7 @@ use lib.ListN.{length, getD}
 use borrow.Author.Tests.{le-leb, lt-leb}
 use borrow.Author.Needs.{needs}
 use mir.Syntax.{w32}
+use Rattle.integers.specs.Limits.{TASKS}
 use Rattle.integers.specs.Moments.{moment, zeroAt}
 use Rattle.integers.specs.Tests.{allBelow}
 use Rattle.integers.proofs.Ints.{back-of}
@@ -34,11 +35,11 @@ task-of c = getD (begin c .args .order .now) (c .before .loop .i) 0
 abbrev next-of : tie.In-loop Inv-loop μ-loop → ℕ
 next-of c = getD (begin c .args .order .now) (c .before .loop .i + 1) 0
 
-task-small : (c : tie.In-loop Inv-loop μ-loop) → task-of c < length (begin c .args .earliest .now)
-task-small c = begin c .pre .tasks (c .before .loop .i) (omega arith)
-
-next-small : (c : tie.In-loop Inv-loop μ-loop) → next-of c < length (begin c .args .earliest .now)
-next-small c = begin c .pre .tasks (c .before .loop .i + 1) (omega arith)
+-- they are tasks, of which there are few
+small : (c : tie.In-loop Inv-loop μ-loop) → let n = length (begin c .args .earliest .now) in (task-of c < n) × (next-of c < n) × (n ≤ TASKS)
+small c =
+    let s = begin c in
+    (s .pre .tasks (c .before .loop .i) (omega arith), s .pre .tasks (c .before .loop .i + 1) (omega arith), s .pre .sortable .few)
 
 -- the moment of the first one's start
 moment-is : (c : tie.After-moment-of Inv-loop μ-loop) → let turn = c .before .before .before .before in c .moment-of .result ≡ moment zeroAt (startAt (begin turn .args .earliest .now) (task-of turn))
@@ -60,42 +61,15 @@ seen c =
     let d = getD (s .args .durations .now) j 0 in
     ap (λ (m : ℕ). leb (m + d) (c .moment-of2 .result)) (moment-is (c .before .before .before))
     ∙ ap (λ (m : ℕ). leb (moment zeroAt (startAt es j) + d) m) (c .moment-of2 .ensures ∙ ap (moment zeroAt) (back-of w32 (startAt es k) (c .before .moment-of-arg2 .given)))
-    ∙ ends-by-test (startAt es j) (startAt es k) d (s .pre .sortable .starts j (task-small turn)) (s .pre .sortable .starts k (next-small turn))
-
-loop-holds : tie.Need-loop-holds Inv-loop μ-loop
-loop-holds c = (omega arith, all-none _)
-
-element-copy-out-task : tie.Need-element-copy-out-task Inv-loop μ-loop
-element-copy-out-task c = omega (arith, c .before .before .pre .sortable .few)
-
-element-copy-out-next : tie.Need-element-copy-out-next Inv-loop μ-loop
-element-copy-out-next c = omega (arith, c .before .before .before .pre .sortable .few, c .before .loop-test .taken)
-
-mul-moment-of : tie.Need-mul-moment-of Inv-loop μ-loop
-mul-moment-of c = record { fits = omega (arith, task-small (c .before .before), c .before .before .before .before .pre .sortable .few) }
-
-shared-slice-copy-out-moment-of : tie.Need-shared-slice-copy-out-moment-of Inv-loop μ-loop
-shared-slice-copy-out-moment-of c = task-small (c .before .before)
-
-mul-end : tie.Need-mul-end Inv-loop μ-loop
-mul-end c = let turn = c .before .before .before .before in record { fits = omega (arith, task-small turn, begin turn .pre .sortable .few) }
-
-element-copy-out-end : tie.Need-element-copy-out-end Inv-loop μ-loop
-element-copy-out-end c = let turn = c .before .before .before .before in omega (arith, task-small turn, begin turn .pre .sortable .few)
+    ∙ ends-by-test (startAt es j) (startAt es k) d (s .pre .sortable .starts j (small turn .0)) (s .pre .sortable .starts k (small turn .1))
 
 add-end : tie.Need-add-end Inv-loop μ-loop
 add-end c =
     let turn = c .before .before .before .before .before in
     let s = begin turn in
     let j = task-of turn in
-    let q = task-small turn in
+    let q = small turn .0 in
     record { fits = omega (arith, moment-is (c .before), start-moment (startAt (s .args .earliest .now) j) (s .pre .sortable .starts j q), s .pre .durations j q) }
-
-mul-moment-of-2 : tie.Need-mul-moment-of-2 Inv-loop μ-loop
-mul-moment-of-2 c = let turn = c .before .before .before .before .before in record { fits = omega (arith, next-small turn, begin turn .pre .sortable .few) }
-
-shared-slice-copy-out-moment-of-2 : tie.Need-shared-slice-copy-out-moment-of-2 Inv-loop μ-loop
-shared-slice-copy-out-moment-of-2 c = next-small (c .before .before .before .before .before)
 
 returns : tie.Need-returns Inv-loop μ-loop
 returns c =
@@ -119,7 +93,8 @@ pub neighbours-apart-spec : {M : Type 1} → statement M
 neighbours-apart-spec =
     tie.close
     (tie.spec
-    Inv-loop μ-loop loop-holds (λ c. search needs) (λ c. search needs) element-copy-out-task (λ c. search needs)
-    (λ c. search needs) element-copy-out-next mul-moment-of shared-slice-copy-out-moment-of (λ c κs. search needs)
-    mul-end element-copy-out-end add-end mul-moment-of-2 shared-slice-copy-out-moment-of-2 (λ c κs. search needs)
-    returns (λ c. search needs) (λ c. search needs) loop-again returns-2)
+    Inv-loop μ-loop (λ c. (omega arith, all-none _)) (λ c. search needs) (λ c. search needs) (λ c. omega (arith, small c)) (λ c. search needs)
+    (λ c. search needs) (λ c. omega (arith, small (c .before))) (λ c. omega (arith, small (c .before .before))) (λ c. small (c .before .before) .0)
+    (λ c κs. search needs) (λ c. omega (arith, small (c .before .before .before .before))) (λ c. omega (arith, small (c .before .before .before .before)))
+    add-end (λ c. omega (arith, small (c .before .before .before .before .before))) (λ c. small (c .before .before .before .before .before) .1)
+    (λ c κs. search needs) returns (λ c. search needs) (λ c. search needs) loop-again returns-2)

@@ -36,20 +36,8 @@ put-right-requires-3 c κs =
     let start = c .before .before .before .before .before .before .before .before in
     let space = start .before .before .before .before in
     let task = space .before .before .before .before .before in
-    let s = begin task in (
-      omega (
-        arith,
-        s .pre .0,
-        task .put-right .ensures .1,
-        space .put-bytes .ensures .end,
-        start .put-right2 .ensures .1,
-        task .put-right .kept .0,
-        space .put-bytes .kept .0,
-        start .put-right2 .kept .0,
-      ),
-      rw (end-is (task .before .before .before)) (omega (arith, end-fits (s .args .start) (s .args .duration) (s .pre .2) (s .pre .3))),
-      omega arith,
-    )
+    let s = begin task in
+    (omega (arith, start, space, s .pre .0), rw (end-is (task .before .before .before)) (omega (arith, end-fits (s .args .start) (s .args .duration) (s .pre .2) (s .pre .3))), omega arith)
 
 returns : tie.Need-returns
 unfolding bytesOf

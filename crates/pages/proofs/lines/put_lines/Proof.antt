@@ -13,6 +13,7 @@ use Rattle.integers.specs.Texts.{bytesOf}
 use Rattle.fixed_schedules.specs.FixedSchedules.{startAt}
 use Rattle.text.specs.DecimalText.{Puts}
 use Rattle.text.proofs.PutBytes.{puts-length, puts-append}
+use Rattle.integers.specs.Limits.{TASKS}
 use Rattle.pages.specs.Lines.{LINE}
 use Rattle.pages.specs.Pages.{lineAt}
 use Rattle.pages.proofs.PageLines.{puts-none, puts-next, each-line}
@@ -35,8 +36,8 @@ begin c = c .before .before .before .before .before .before .before
 abbrev task-of : tie.In-loop Inv-loop μ-loop → ℕ
 task-of c = getD (begin c .args .order .now) (c .before .loop .i) 0
 
-small : (c : tie.In-loop Inv-loop μ-loop) → task-of c < length (begin c .args .earliest .now)
-small c = begin c .pre .0 .tasks (c .before .loop .i) (omega (arith, c .loop-test .taken))
+small : (c : tie.In-loop Inv-loop μ-loop) → let n = length (begin c .args .earliest .now) in (task-of c < n) × (n ≤ TASKS)
+small c = let p = begin c .pre .0 in (p .tasks (c .before .loop .i) (omega (arith, c .loop-test .taken)), p .sortable .few)
 
 abbrev start-of : tie.In-loop Inv-loop μ-loop → ℤ
 start-of c = startAt (begin c .args .earliest .now) (task-of c)
@@ -44,26 +45,8 @@ start-of c = startAt (begin c .args .earliest .now) (task-of c)
 start-is : (c : tie.After-put-line-arg2 Inv-loop μ-loop) → let turn = c .before .before .before in toZ w32 (ofZ w32 (start-of turn)) ≡ start-of turn
 start-is c = back-of w32 (start-of (c .before .before .before)) (c .put-line-arg2 .given)
 
-put-heading-requires : tie.Need-put-heading-requires Inv-loop μ-loop
-put-heading-requires c κs = omega (arith, c .before .before .pre .1)
-
 loop-holds : tie.Need-loop-holds Inv-loop μ-loop
 loop-holds c = let a = c .before .before .before .before .before .args in (omega arith, refl, omega arith, puts-none (lineAt (a .durations .now) (a .earliest .now)) (a .order .now) _ _)
-
-element-copy-out-task : tie.Need-element-copy-out-task Inv-loop μ-loop
-element-copy-out-task c = let few = begin c .pre .0 .sortable .few in omega (arith, few, c .loop-test .taken)
-
-mul-put-line : tie.Need-mul-put-line Inv-loop μ-loop
-mul-put-line c = let turn = c .before .before in record { fits = omega (arith, small turn, begin turn .pre .0 .sortable .few) }
-
-shared-slice-copy-out-put-line : tie.Need-shared-slice-copy-out-put-line Inv-loop μ-loop
-shared-slice-copy-out-put-line c = small (c .before .before)
-
-mul-put-line-2 : tie.Need-mul-put-line-2 Inv-loop μ-loop
-mul-put-line-2 c = let turn = c .before .before .before in record { fits = omega (arith, small turn, begin turn .pre .0 .sortable .few) }
-
-element-copy-out-put-line : tie.Need-element-copy-out-put-line Inv-loop μ-loop
-element-copy-out-put-line c = let turn = c .before .before .before in omega (arith, small turn, begin turn .pre .0 .sortable .few)
 
 put-line-requires : tie.Need-put-line-requires Inv-loop μ-loop
 unfolding bytesOf
@@ -72,9 +55,9 @@ put-line-requires c κs =
     let s = begin turn in
     let l = turn .before .loop in
     let heading = turn .before .before .before .before .put-heading .ensures in
-    let q = small turn in (
+    let q = small turn .0 in (
       omega (arith, l .inv .1, l .inv .2, heading .end, puts-length heading, s .pre .1, turn .loop-test .taken),
-      omega (arith, q, s .pre .0 .sortable .few),
+      omega (arith, small turn),
       rw (start-is (c .before)) (s .pre .0 .sortable .starts (task-of turn) q),
       s .pre .0 .durations (task-of turn) q,
     )
@@ -91,7 +74,7 @@ loop-again c =
       omega (arith, turn .loop-test .taken),
       puts-length w
           ∙ l .inv .1,
-      omega (arith, w .end, l .inv .2, each-line ds es (s .pre .0 .sortable) (s .pre .0 .durations) k (small turn)),
+      omega (arith, w .end, l .inv .2, each-line ds es (s .pre .0 .sortable) (s .pre .0 .durations) k (small turn .0)),
       puts-next (lineAt ds es) (s .args .order .now) (l .i) (omega (arith, s .pre .0 .long, turn .loop-test .taken)) (l .inv .3) w,
     )
 
@@ -106,6 +89,6 @@ pub put-lines-spec : {M : Type 1} → statement M
 put-lines-spec =
     tie.close
     (tie.spec
-    Inv-loop μ-loop put-heading-requires loop-holds (λ c. search needs) element-copy-out-task mul-put-line
-    shared-slice-copy-out-put-line mul-put-line-2 element-copy-out-put-line put-line-requires (λ c. search needs)
-    (λ c. search needs) loop-again (λ c. search needs) returns)
+    Inv-loop μ-loop (λ c κs. search needs) loop-holds (λ c. search needs) (λ c. omega (arith, small c)) (λ c. omega (arith, small (c .before .before)))
+    (λ c. small (c .before .before) .0) (λ c. omega (arith, small (c .before .before .before))) (λ c. omega (arith, small (c .before .before .before)))
+    put-line-requires (λ c. search needs) (λ c. search needs) loop-again (λ c. search needs) returns)

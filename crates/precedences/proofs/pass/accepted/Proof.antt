@@ -2,7 +2,6 @@
 use mathlib.Core.Path.{_≡_}
 use lib.ListN.{length}
 use Rattle.integers.specs.Limits.{TASKS}
-use Rattle.precedences.specs.PredecessorArrays.{Boundable}
 use Rattle.precedences.proofs.AcceptedArrays.{boundable}
 use Rattle.precedences.proofs.PassContract.{some-past, none-past}
 use borrow.Author.Needs.{needs}
@@ -23,11 +22,8 @@ est c = lst c .before .before
 abbrev start : tie.After-durations2 → tie.Start
 start c = est c .before .before .before .before
 
-abbrev ready : (c : tie.After-durations2) → let r = start c .args .«record» in Boundable (r .count) (est c .moments-of .last .0) (lst c .moments-of2 .last .0) (r .durations)
-ready c =
-    let s = start c in
-    let a = s .args in
-    boundable (a .«record») (a .earliest .now) (a .latest .now) (s .pre) (long s) (est c .moments-of .ensures) (lst c .moments-of2 .ensures)
+raised-starts-requires : tie.Need-raised-starts-requires
+raised-starts-requires c κs = boundable _ _ _ (start c .pre) (long (start c)) (est c .moments-of .ensures) (lst c .moments-of2 .ensures)
 
 returns : tie.Need-returns
 returns c =
@@ -35,25 +31,20 @@ returns c =
     let w = f .before .before .before in
     let m = w .before in
     let s = start m in
-    let a = s .args in
-    some-past (a .«record») (a .earliest .now) (a .latest .now) (s .pre) (long s) (est m .moments-of .ensures) (lst m .moments-of2 .ensures)
-    (w .raised-starts .ensures (ready m)) (f .first-past .result) (f .first-past .ensures) (c .if1 .taken)
+    some-past _ _ _ (s .pre) (long s) (est m .moments-of .ensures) (lst m .moments-of2 .ensures) (w .raised-starts .ensures) _ (f .first-past .ensures) (c .if1 .taken)
 
 returns-2 : tie.Need-returns-2
 returns-2 c =
-    let y = c .before in
-    let i = y .before .before .before in
-    let f = i .before in
-    let w = f .before .before .before in
+    let i = c .before .before .before .before in
+    let w = i .before .before .before .before in
     let m = w .before in
     let s = start m in
-    let a = s .args in
-    none-past (a .«record») (a .earliest .now) (a .latest .now) (s .pre) (long s) (est m .moments-of .ensures) (lst m .moments-of2 .ensures)
-    (w .raised-starts .ensures (ready m)) (f .first-past .result) (f .first-past .ensures) (i .if1 .left) (y .store .ensures)
+    none-past _ _ _ (s .pre) (long s) (est m .moments-of .ensures) (lst m .moments-of2 .ensures) (w .raised-starts .ensures) _ (i .before .first-past .ensures) (i .if1 .left)
+    (c .before .store .ensures)
 
 pub accepted-spec : {M : Type 1} → statement M
 accepted-spec =
     tie.close
     (tie.spec
-    (λ c κs. search needs) (λ c κs. search needs) (λ c κs. ready c) (λ c κs. search needs) (λ c. search needs) returns
+    (λ c κs. search needs) (λ c κs. search needs) raised-starts-requires (λ c κs. search needs) (λ c. search needs) returns
     (λ c κs. search needs) (λ c. search needs) returns-2)

@@ -13,9 +13,6 @@ Inv-loop raised lst n i₀ i = (i ≤ n) × ((k : ℕ) → k < i → getD raised
 abbrev μ-loop : tie.MeasureT-loop
 μ-loop raised lst n i₀ i = n - i
 
-loop-holds : tie.Need-loop-holds Inv-loop μ-loop
-loop-holds c = (omega arith, λ k q. absurd (omega arith))
-
 returns : tie.Need-returns Inv-loop μ-loop
 returns c = let l = c .before .before .before .before .loop in record { small = omega arith; past = λ _. c .if1 .taken; none-before = l .inv .1 }
 
@@ -29,5 +26,5 @@ pub first-past-spec : {M : Type 1} → statement M
 first-past-spec =
     tie.close
     (tie.spec
-    Inv-loop μ-loop loop-holds (λ c. search needs) (λ c. search needs) (λ c. search needs) (λ c. search needs) returns
+    Inv-loop μ-loop (λ c. (omega arith, λ k q. absurd (omega arith))) (λ c. search needs) (λ c. search needs) (λ c. search needs) (λ c. search needs) returns
     (λ c. search needs) (λ c. search needs) loop-again returns-2)

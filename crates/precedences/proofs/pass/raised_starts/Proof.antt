@@ -1,5 +1,5 @@
 -- The invariant: the first i places hold the raised starts, for every reading of the arrays as tasks, and the others 0.
-use mathlib.Core.Path.{_≡_, sym, ap, ap₂, _∙_}
+use mathlib.Core.Path.{_≡_, sym, ap₂, _∙_}
 use mathlib.Core.List.{List}
 use Prim.Native.Nat.{ℕ, _-_, _≤_, _<_}
 use native.Mathlib.Omega.{arith}
@@ -27,20 +27,13 @@ abbrev μ-loop : tie.MeasureT-loop
 loop-holds : tie.Need-loop-holds Inv-loop μ-loop
 loop-holds c = record { boundable = c .pre; at = λ f. sym (filled-none (raisedAt (f .J)) noTasks); small = omega arith }
 
-bound-of-requires : tie.Need-bound-of-requires Inv-loop μ-loop
-bound-of-requires c κs = (c .before .loop .inv .boundable, omega arith)
-
-element-copy-out-raised : tie.Need-element-copy-out-raised Inv-loop μ-loop
-element-copy-out-raised c = omega (arith, c .before .before .loop .inv .boundable .held .few)
-
 loop-again : tie.Need-loop-again Inv-loop μ-loop
 loop-again c =
     let l = c .before .before .before .before .loop in
     let q : l .i < c .before .before .before .before .before .args .n = omega arith in
     record {
       boundable = l .inv .boundable;
-      at = λ f. filled-store (raisedAt (f .J)) noTasks (l .raised) (l .i) (c .raised .result) (l .inv .at f)
-          (c .raised .ensures ∙ ap₂ raisedTo (f .held .start (l .i) q) (c .before .before .bound-of .ensures f));
+      at = λ f. filled-store _ noTasks _ _ _ (l .inv .at f) (c .raised .ensures ∙ ap₂ raisedTo (f .held .start (l .i) q) (c .before .before .bound-of .ensures f));
       small = omega arith;
     }
 
@@ -48,11 +41,12 @@ returns : tie.Need-returns Inv-loop μ-loop
 returns c = λ f.
     let l = c .before .loop in
     let e : l .i ≡ c .before .before .args .n = omega (arith, l .inv .small) in
-    l .inv .at f ∙ ap (λ (j : ℕ). filled (raisedAt (f .J)) j noTasks) e
+    rw e at (l .inv .at f)
 
 pub raised-starts-spec : {M : Type 1} → statement M
 raised-starts-spec =
     tie.close
     (tie.spec
-    Inv-loop μ-loop loop-holds bound-of-requires (λ c. search needs) element-copy-out-raised (λ c κs. search needs)
+    Inv-loop μ-loop loop-holds (λ c κs. (c .before .loop .inv .boundable, omega arith)) (λ c. search needs)
+    (λ c. omega (arith, c .before .before .loop .inv .boundable .held .few)) (λ c κs. search needs)
     (λ c. search needs) (λ c. search needs) (λ c. search needs) (λ c. search needs) loop-again returns)

@@ -1,6 +1,6 @@
 -- The invariant: the first k starts are the raised ones, and those from k on are unchanged.
 use mathlib.Core.Path.{_≡_, refl, sym, ap, _∙_}
-use Prim.Native.Nat.{ℕ, _+_, _-_, _≤_}
+use Prim.Native.Nat.{_+_, _-_, _≤_}
 use native.Mathlib.Omega.{arith}
 use lib.ListN.{length}
 use mir.Syntax.{w32}
@@ -18,9 +18,6 @@ Inv-loop earliest₀ raised k₀ earliest k = (k ≤ length earliest₀) × (len
 abbrev μ-loop : tie.MeasureT-loop
 μ-loop earliest₀ raised k₀ earliest k = length earliest₀ - k
 
-loop-holds : tie.Need-loop-holds Inv-loop μ-loop
-loop-holds c = (omega arith, refl, sym (filled-none (startAt (c .args .raised .now)) (c .args .earliest .now)))
-
 loop-again : tie.Need-loop-again Inv-loop μ-loop
 loop-again c =
     let start = c .before .before .before .before in
@@ -31,14 +28,12 @@ loop-again c =
 
 returns : tie.Need-returns Inv-loop μ-loop
 returns c =
-    let a = c .before .before .args in
-    let l = c .before .loop in
-    let e : l .k ≡ length (a .earliest .now) = omega arith in
-    l .inv .2 ∙ ap (λ (j : ℕ). filled (startAt (a .raised .now)) j (a .earliest .now)) e
+    let e : c .before .loop .k ≡ length (c .before .before .args .earliest .now) = omega arith in
+    rw e at (c .before .loop .inv .2)
 
 pub store-spec : {M : Type 1} → statement M
 store-spec =
     tie.close
     (tie.spec
-    Inv-loop μ-loop loop-holds (λ c. search needs) (λ c. search needs) (λ c κs. search needs) (λ c. search needs)
+    Inv-loop μ-loop (λ c. (omega arith, refl, sym (filled-none _ _))) (λ c. search needs) (λ c. search needs) (λ c κs. search needs) (λ c. search needs)
     (λ c. search needs) (λ c. search needs) (λ c. search needs) loop-again (λ c. search needs) returns)

@@ -1,7 +1,7 @@
 -- The invariant: the first j places say whether their task comes before task i, and the others are false.
-use mathlib.Core.Path.{_≡_, refl, sym, ap, _∙_}
+use mathlib.Core.Path.{_≡_, refl, sym}
 use mathlib.Core.Bool.{false}
-use Prim.Native.Nat.{ℕ, _+_, _-_, _≤_}
+use Prim.Native.Nat.{_+_, _-_, _≤_}
 use native.Mathlib.Omega.{arith}
 use lib.ListN.{getD, replicate}
 use Rattle.integers.specs.Limits.{TASKS}
@@ -18,27 +18,21 @@ Inv-loop est lst durations n i end before₀ j₀ before j = (j ≤ n) × (end �
 abbrev μ-loop : tie.MeasureT-loop
 μ-loop est lst durations n i end before₀ j₀ before j = n - j
 
-loop-holds : tie.Need-loop-holds Inv-loop μ-loop
-loop-holds c = (omega arith, refl, sym (filled-none _ _))
-
 loop-again : tie.Need-loop-again Inv-loop μ-loop
 loop-again c =
     let l = c .before .before .before .loop in
-    let a = c .before .before .before .before .before .before .args in
-    let f = precedesAt (a .est .now) (a .lst .now) (a .durations .now) (a .i) in
-    (omega arith, l .inv .1, filled-store f (replicate TASKS false) (l .before) (l .j) (c .precedes .result) (l .inv .2) (c .precedes .ensures))
+    (omega arith, l .inv .1, filled-store _ _ _ _ _ (l .inv .2) (c .precedes .ensures))
 
 returns : tie.Need-returns Inv-loop μ-loop
 returns c =
     let l = c .before .loop in
-    let a = c .before .before .before .before .args in
-    let e : l .j ≡ a .n = omega arith in
-    l .inv .2 ∙ ap (λ (j : ℕ). filled (precedesAt (a .est .now) (a .lst .now) (a .durations .now) (a .i)) j (replicate TASKS false)) e
+    let e : l .j ≡ c .before .before .before .before .args .n = omega arith in
+    rw e at (l .inv .2)
 
 pub predecessors-spec : {M : Type 1} → statement M
 predecessors-spec =
     tie.close
     (tie.spec
     Inv-loop μ-loop (λ c. search needs) (λ c. search needs) (λ c. search needs) (λ c. search needs)
-    (λ c. search needs) loop-holds (λ c. search needs) (λ c. search needs) (λ c κs. search needs) (λ c. search needs)
+    (λ c. search needs) (λ c. (omega arith, refl, sym (filled-none _ _))) (λ c. search needs) (λ c. search needs) (λ c κs. search needs) (λ c. search needs)
     (λ c. search needs) (λ c. search needs) loop-again returns)

@@ -2,7 +2,6 @@
 use mathlib.Core.Path.{_≡_}
 use lib.ListN.{length}
 use Rattle.integers.specs.Limits.{TASKS}
-use Rattle.precedences.specs.PredecessorArrays.{Boundable}
 use Rattle.precedences.proofs.AcceptedArrays.{boundable}
 use Rattle.precedences.proofs.ReasonContract.{gave}
 use borrow.Author.Needs.{needs}
@@ -13,29 +12,18 @@ use Rattle.precedences.proofs.reason.accepted_reason.Tie as tie
 long : (c : tie.Start) → length (c .args .«record» .durations) ≡ TASKS
 long c = search needs
 
--- when both arrays of moments are filled: what each call left
-abbrev est : tie.After-moments-of2 → tie.After-moments-of
-est c = c .before .before
-
-abbrev start : tie.After-moments-of2 → tie.Start
-start c = est c .before .before .before
-
-abbrev ready : (c : tie.After-moments-of2) → let r = start c .args .«record» in Boundable (r .count) (est c .moments-of .last .0) (c .moments-of2 .last .0) (r .durations)
-ready c =
-    let s = start c in
-    let a = s .args in
-    boundable (a .«record») (a .earliest .now) (a .latest .now) (s .pre .0) (long s) (est c .moments-of .ensures) (c .moments-of2 .ensures)
-
 write-reason-requires : tie.Need-write-reason-requires
-write-reason-requires c κs = let m = c .before .before .before .before in let p = start m .pre .1 in (ready m, p .small, p .room)
+write-reason-requires c κs =
+    let m = c .before .before .before .before in
+    let s = m .before .before .before .before .before in
+    (boundable _ _ _ (s .pre .0) (long s) (m .before .before .moments-of .ensures) (m .moments-of2 .ensures), s .pre .1 .small, s .pre .1 .room)
 
 returns : tie.Need-returns
 returns c =
     let y = c .before in
     let m = y .before .before .before .before .before in
-    let s = start m in
-    let a = s .args in
-    gave (a .«record») (a .earliest .now) (a .latest .now) (s .pre .0) (long s) (a .task) (a .atoms .now) _ (y .write-reason .result) (s .pre .1) (y .write-reason .ensures (ready m))
+    let s = m .before .before .before .before .before in
+    gave _ _ _ (s .pre .0) (long s) (m .before .before .moments-of .ensures) (m .moments-of2 .ensures) _ _ _ _ (s .pre .1) (y .write-reason .ensures)
 
 pub accepted-reason-spec : {M : Type 1} → statement M
 accepted-reason-spec =

@@ -1,6 +1,6 @@
 -- The invariant: both bounds of the members below j are written from the second atom on, and k is the number of the atom after them.
-use mathlib.Core.Path.{_≡_, refl, sym, subst}
-use Prim.Native.Nat.{ℕ, _+_, _-_, _≤_, _<_}
+use mathlib.Core.Path.{_≡_, refl}
+use Prim.Native.Nat.{_-_, _≤_, _<_}
 use native.Mathlib.Omega.{arith}
 use lib.ListN.{length}
 use Rattle.post_words.specs.StoredAtoms.{Stored}
@@ -20,9 +20,6 @@ Inv-loop atoms₀ members est lst n k₀ j₀ atoms k j = (j ≤ n) × (length a
 abbrev μ-loop : tie.MeasureT-loop
 μ-loop atoms₀ members est lst n k₀ j₀ atoms k j = n - j
 
-loop-holds : tie.Need-loop-holds Inv-loop μ-loop
-loop-holds c = let a = c .args in (omega arith, refl, none-yet (startAt (a .est .now)) (startAt (a .lst .now)) (memberAt (a .members .now)))
-
 write-both-requires : tie.Need-write-both-requires Inv-loop μ-loop
 write-both-requires c κs =
     let l = c .before .before .before .before .before .loop in
@@ -38,25 +35,18 @@ loop-again : tie.Need-loop-again Inv-loop μ-loop
 loop-again c =
     let l = c .before .before .before .before .before .before .before .loop in
     let a = c .before .before .before .before .before .before .before .before .args in
-    let e = startAt (a .est .now) in
-    let v = startAt (a .lst .now) in
-    let m = memberAt (a .members .now) in
-    let w = c .before .write-both in
-    let s : Stored (a .atoms .now) (w .last .0) 1 (w .result) (bothBounds e v m (l .j + 1)) =
-    subst (Stored (a .atoms .now) (w .last .0) 1 (w .result)) (sym (both-more e v m (l .j))) (stored-then (l .inv .2) (w .ensures)) in
-    (omega arith, stored-length s, s)
+    let s = stored-then (l .inv .2) (c .before .write-both .ensures) in
+    (omega arith, stored-length s, rw (both-more (startAt (a .est .now)) (startAt (a .lst .now)) (memberAt (a .members .now)) (l .j)) s)
 
 returns : tie.Need-returns Inv-loop μ-loop
 returns c =
-    let l = c .before .loop in
-    let a = c .before .before .args in
-    let e : l .j ≡ a .n = omega arith in
-    subst (λ (n : ℕ). Stored (a .atoms .now) (l .atoms) 1 (l .k) (bothBounds (startAt (a .est .now)) (startAt (a .lst .now)) (memberAt (a .members .now)) n)) e (l .inv .2)
+    let e : c .before .loop .j ≡ c .before .before .args .n = omega arith in
+    rw e at (c .before .loop .inv .2)
 
 pub write-members-spec : {M : Type 1} → statement M
 write-members-spec =
     tie.close
     (tie.spec
-    Inv-loop μ-loop loop-holds (λ c. search needs) (λ c. search needs) (λ c. search needs) (λ c. search needs)
+    Inv-loop μ-loop (λ c. (omega arith, refl, none-yet _ _ _)) (λ c. search needs) (λ c. search needs) (λ c. search needs) (λ c. search needs)
     (λ c. search needs) write-both-requires (λ c. search needs) (λ c. search needs) loop-again (λ c. search needs)
     returns)

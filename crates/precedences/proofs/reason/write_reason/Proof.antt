@@ -1,30 +1,22 @@
 -- Where the bound raises nothing, no word changes; else the task's own atom is stored, and the members' atoms after it.
-use mathlib.Core.Path.{_≡_, sym, ap, _∙_}
+use mathlib.Core.Path.{_≡_, ap, _∙_}
 use mathlib.Core.List.{List, [], _∷_}
-use mathlib.Core.Option.{Option}
-use Prim.Native.Nat.{ℕ, _*_}
+use Prim.Native.Nat.{_*_}
 use native.Mathlib.Omega.{arith}
 use lib.IntN.{ℤ, pos}
 use lib.ListN.{length, getD}
 use lib.Seq.{sets, length-sets}
 use Rattle.integers.specs.Moments.{instant, zeroAt}
 use Rattle.trees.specs.Ects.{exceeds}
-use Rattle.precedences.specs.PredecessorArrays.{boundAt, Boundable}
 use Rattle.precedences.proofs.AcceptedArrays.{end-fits}
 use Rattle.precedences.proofs.ReasonContract.{members-fit, reason-left, nothing-left}
 use borrow.Author.Needs.{needs}
-use borrow.Author.Tests.{not-true, not-false}
 use Rattle.precedences.proofs.reason.write_reason.Statement.{statement}
 use Rattle.precedences.proofs.reason.write_reason.Tie as tie
 
 -- when the bound is known
 abbrev start : tie.After-bound-of → tie.Start
 start t = t .before .before
-
--- the test is the definition's
-tested : (x : tie.After-exceeds) → let a = start (x .before) .args in (f : Boundable (a .n) (a .est .now) (a .lst .now) (a .durations .now))
-    → x .exceeds .result ≡ exceeds (boundAt (f .J) (a .i)) (getD (a .est .now) (a .i) 0)
-tested x f = x .exceeds .ensures ∙ ap (λ (o : Option ℕ). exceeds o (getD (start (x .before) .args .est .now) (start (x .before) .args .i) 0)) (x .before .bound-of .ensures f)
 
 -- the first atom, and the slice's length after it
 abbrev else1 : tie.After-write-atom → tie.Else1
@@ -42,13 +34,10 @@ first c = c .write-atom .ensures
 length-first : (c : tie.After-write-atom) → length (c .write-atom .last .0) ≡ length (start (bound-known c) .args .atoms .now)
 length-first c = ap length (first c) ∙ length-sets (start (bound-known c) .args .atoms .now) (3 * 0) (one c)
 
-bound-of-requires : tie.Need-bound-of-requires
-bound-of-requires c κs = let s = c .before in (s .pre .0, s .pre .1)
-
 returns : tie.Need-returns
 returns c = λ f.
-    let s = start (c .before .before) in
-    nothing-left f (s .args .i) (s .pre .1) (sym (tested (c .before) f) ∙ not-true (c .before .exceeds .result) (c .if1 .taken))
+    let x = c .before in
+    nothing-left f _ (start (x .before) .pre .1) (x .before .bound-of .ensures f) (x .exceeds .ensures) (c .if1 .taken)
 
 predecessors-requires : tie.Need-predecessors-requires
 predecessors-requires c κs = let s = start (bound-known (c .before)) in (s .pre .0 .held .few, s .pre .1, end-fits (s .pre .0) (s .args .i) (s .pre .1))
@@ -65,13 +54,12 @@ returns-2 c = λ f.
     let y = c .before in
     let p = y .before .before .before in
     let w = p .before .before in
-    let s = start (bound-known w) in
-    reason-left f (s .args .i) (s .pre .1) (p .predecessors .ensures) (sym (tested (else1 w .before) f) ∙ not-false (else1 w .before .exceeds .result) (else1 w .if1 .left)) (first w)
-    (y .write-members .ensures)
+    let x = else1 w .before in
+    reason-left f _ (start (x .before) .pre .1) (p .predecessors .ensures) (x .before .bound-of .ensures f) (x .exceeds .ensures) (else1 w .if1 .left) (first w) (y .write-members .ensures)
 
 pub write-reason-spec : {M : Type 1} → statement M
 write-reason-spec =
     tie.close
     (tie.spec
-    (λ c. search needs) (λ c. search needs) bound-of-requires (λ c κs. search needs) returns (λ c κs. search needs)
+    (λ c. search needs) (λ c. search needs) (λ c κs. search needs) (λ c κs. search needs) returns (λ c κs. search needs)
     predecessors-requires write-members-requires (λ c. search needs) returns-2)
