@@ -1,6 +1,6 @@
 mod AllPlaces
 mod Walk
-mod Locals
+pub mod Locals
 pub mod LentRuns
 pub mod Calls
 pub mod Routines

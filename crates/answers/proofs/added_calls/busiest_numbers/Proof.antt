@@ -13,8 +13,5 @@ returns : tie.Need-returns
 returns c = (λ i. busiestAnswer (busiestNumbers (Stretch (c .before .answer .given .0 .0) (back-of w32 (c .before .answer .given .0 .1 .0) (c .known-told .given .1 .0 .1) i))))
     ∙ sym (λ i. busiestAnswer (busiestNumbers (c .before .answer .given .1 i)))
 
-returns-2 : tie.Need-returns-2
-returns-2 c = sym (λ i. busiestAnswer (busiestNumbers (c .before .answer2 .given .1 i)))
-
 pub busiest-numbers-spec : {M : Type 1} → statement M
-busiest-numbers-spec = tie.close (tie.spec (λ c. search needs) (λ c. search needs) returns returns-2)
+busiest-numbers-spec = tie.close (tie.spec (λ c. search needs) (λ c. search needs) returns (λ c. rw (c .before .answer2 .given .1)))

@@ -1,9 +1,7 @@
 -- Each case gives its own numbers.
-use mathlib.Core.Path.{sym, subst, _∙_}
+use mathlib.Core.Path.{subst, _∙_}
 use native.Mathlib.Omega.{arith}
-use Rattle.runs.specs.Outcomes.{outcomeNumbers}
 use Rattle.answers.specs.SourceAnswers.{WordsCountable}
-use Rattle.answers.specs.AddedAnswers.{mirroredAnswer}
 use borrow.Author.Needs.{needs}
 use Rattle.answers.proofs.added_calls.mirrored_numbers.Statement.{statement}
 use Rattle.answers.proofs.added_calls.mirrored_numbers.Tie as tie
@@ -15,25 +13,17 @@ words-of-requires c κs = let case = c .before in omega (arith, subst WordsCount
 words-of-requires-2 : tie.Need-words-of-requires-2
 words-of-requires-2 c κs = let case = c .before .before in omega (arith, subst WordsCountable (case .outcome2 .given .1) (case .before .before .pre))
 
-returns : tie.Need-returns
-returns c = c .mirrored-answer .ensures ∙ sym (λ i. mirroredAnswer (outcomeNumbers (c .before .before .outcome .given .1 i)))
-
 returns-2 : tie.Need-returns-2
 returns-2 c =
     let second = c .before in
-    let case = second .before .before .before in
-    c .mirrored-answer2 .ensures ∙ rw (second .before .words-of .ensures, second .words-of2 .ensures) (sym (λ i. mirroredAnswer (outcomeNumbers (case .outcome2 .given .1 i))))
-
-returns-3 : tie.Need-returns-3
-returns-3 c = c .mirrored-answer3 .ensures ∙ sym (λ i. mirroredAnswer (outcomeNumbers (c .before .before .outcome3 .given .1 i)))
-
-returns-4 : tie.Need-returns-4
-returns-4 c = c .mirrored-answer4 .ensures ∙ sym (λ i. mirroredAnswer (outcomeNumbers (c .before .before .outcome4 .given .1 i)))
+    rw (second .before .before .before .outcome2 .given .1) (c .mirrored-answer2 .ensures ∙ rw (second .before .words-of .ensures, second .words-of2 .ensures))
 
 pub mirrored-numbers-spec : {M : Type 1} → statement M
 mirrored-numbers-spec =
     tie.close
     (tie.spec
-    (λ c. search needs) (λ c κs. search needs) (λ c. search needs) words-of-requires words-of-requires-2
-    (λ c κs. search needs) (λ c. search needs) (λ c κs. search needs) (λ c. search needs) (λ c κs. search needs)
-    returns returns-2 returns-3 returns-4)
+    (λ c. search needs) (λ c κs. search needs) (λ c. search needs) words-of-requires words-of-requires-2 (λ c κs. search needs)
+    (λ c. search needs) (λ c κs. search needs) (λ c. search needs) (λ c κs. search needs)
+    (λ c. rw (c .before .before .outcome .given .1) (c .mirrored-answer .ensures)) returns-2
+    (λ c. rw (c .before .before .outcome3 .given .1) (c .mirrored-answer3 .ensures))
+    (λ c. rw (c .before .before .outcome4 .given .1) (c .mirrored-answer4 .ensures)))

@@ -1,23 +1,12 @@
 -- Each case gives its own numbers.
-use mathlib.Core.Path.{sym, _∙_}
-use Rattle.overload_test.specs.Numbers.{overloadNumbers}
-use Rattle.answers.specs.AddedAnswers.{countAnswer}
 use borrow.Author.Needs.{needs}
 use Rattle.answers.proofs.added_calls.overload_numbers.Statement.{statement}
 use Rattle.answers.proofs.added_calls.overload_numbers.Tie as tie
-
-returns : tie.Need-returns
-returns c = c .count-answer .ensures ∙ sym (λ i. countAnswer (overloadNumbers (c .before .before .answer .given .1 i)))
-
-returns-2 : tie.Need-returns-2
-returns-2 c = c .count-answer2 .ensures ∙ sym (λ i. countAnswer (overloadNumbers (c .before .enum-told .given .1 i)))
-
-returns-3 : tie.Need-returns-3
-returns-3 c = c .count-answer3 .ensures ∙ sym (λ i. countAnswer (overloadNumbers (c .before .before .answer2 .given .1 i)))
 
 pub overload-numbers-spec : {M : Type 1} → statement M
 overload-numbers-spec =
     tie.close
     (tie.spec
     (λ c. search needs) (λ c κs. search needs) (λ c. search needs) (λ c κs. search needs) (λ c. search needs)
-    (λ c κs. search needs) returns returns-2 returns-3)
+    (λ c κs. search needs) (λ c. rw (c .before .before .answer .given .1) (c .count-answer .ensures))
+    (λ c. rw (c .before .enum-told .given .1) (c .count-answer2 .ensures)) (λ c. rw (c .before .before .answer2 .given .1) (c .count-answer3 .ensures)))

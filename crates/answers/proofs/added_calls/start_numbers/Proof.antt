@@ -13,11 +13,9 @@ returns : tie.Need-returns
 returns c = c .start-answer .ensures ∙ (λ i. startAnswer (freeStartNumbers (At (back-of w32 (c .before .before .answer .given .0 .0) (c .before .known-told .given .0 .1) i))))
     ∙ sym (λ i. startAnswer (freeStartNumbers (c .before .before .answer .given .1 i)))
 
-returns-2 : tie.Need-returns-2
-returns-2 c = c .start-answer2 .ensures ∙ sym (λ i. startAnswer (freeStartNumbers (c .before .before .answer2 .given .1 i)))
-
 pub start-numbers-spec : {M : Type 1} → statement M
 start-numbers-spec =
     tie.close
     (tie.spec
-    (λ c. search needs) (λ c κs. search needs) (λ c. search needs) (λ c κs. search needs) returns returns-2)
+    (λ c. search needs) (λ c κs. search needs) (λ c. search needs) (λ c κs. search needs) returns
+    (λ c. rw (c .before .before .answer2 .given .1) (c .start-answer2 .ensures)))

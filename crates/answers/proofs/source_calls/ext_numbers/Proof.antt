@@ -12,12 +12,9 @@ use Rattle.answers.proofs.source_calls.ext_numbers.Tie as tie
 returns : tie.Need-returns
 returns c = (λ i. stateAnswer (extNumbers (Int (back-of w32 (c .before .bound .given .0 .0) (c .known-told .given .0 .1) i)))) ∙ sym (λ i. stateAnswer (extNumbers (c .before .bound .given .1 i)))
 
-returns-2 : tie.Need-returns-2
-returns-2 c = sym (λ i. stateAnswer (extNumbers (c .enum-told .given .1 i)))
-
-returns-3 : tie.Need-returns-3
-returns-3 c = sym (λ i. stateAnswer (extNumbers (c .enum-told2 .given .1 i)))
-
 pub ext-numbers-spec : {M : Type 1} → statement M
 ext-numbers-spec =
-    tie.close (tie.spec (λ c. search needs) (λ c. search needs) (λ c. search needs) returns returns-2 returns-3)
+    tie.close
+    (tie.spec
+    (λ c. search needs) (λ c. search needs) (λ c. search needs) returns (λ c. rw (c .enum-told .given .1))
+    (λ c. rw (c .enum-told2 .given .1)))

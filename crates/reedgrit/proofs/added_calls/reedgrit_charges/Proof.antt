@@ -1,14 +1,13 @@
--- A walk of its MIR, by hand. The record, the ranges and the due moments are passed on to the open call for good, and the numbers of its answer are
+-- The record, the ranges and the due moments are passed on to the open call for good, and the numbers of its answer are
 -- returned.
 use mathlib.Core.Path.{refl}
 use mathlib.Core.List.{[], _∷_}
 use mathlib.Core.Option.{none}
-use mir.Syntax.{named}
-use types.Kit.{raw, _$_, _∵_, !, qed, by, move, keep}
-use types.Run.{look, init, forget, stop, from, load, returns, enter, alloc1, alloc0, params1, pass1, pass0, free1, free0, and-then, no-more, land}
+use mir.Syntax.{named, w32, tyInt, tyRef, imm}
 use denote.Builtin.{i32}
 use denote.Ref.{now, ptr-vals, shr-tells}
-use denote.Slice.{slice-vals, shr-slice-tells}
+use denote.Slice.{sliceTy, slice-vals, shr-slice-tells}
+use contract.Running.{givenOf}
 use denote.Struct.Laws as LL
 use Rattle.records.proofs.record.DisjunctivePropagator as P
 use Rattle.charges.proofs.answer.Charges as O
@@ -21,13 +20,13 @@ use Rattle.disjunctive.proofs.open_calls.of_fixed_schedules.charges.Symbol as l
 use Rattle.disjunctive.proofs.open_calls.of_fixed_schedules.charges.Symbol.{name as #lent}
 use Rattle.disjunctive.proofs.open_calls.of_fixed_schedules.charges.Met as lent-thm
 use Rattle.answers.specs.AddedAnswers.{chargesAnswer}
-use Rattle.reedgrit.specs.AddedCalls.{ChargesNumbers}
 use Rattle.answers.proofs.added_calls.ChargesAnswer as N
 use Rattle.answers.proofs.added_calls.ChargesAnswer.Laws as N′
 use Rattle.answers.proofs.added_calls.charges_numbers.Symbol as numbers-def
 use Rattle.answers.proofs.added_calls.charges_numbers.Symbol.{name as #numbers}
 use Rattle.answers.proofs.added_calls.charges_numbers.Met as numbers-thm
-use Rattle.reedgrit.proofs.PassedOn.{Passing, Lent, written, ends, calls-open, calls-numbers, Walks, passed-on}
+use Rattle.reedgrit.proofs.Ways.{as-is, record-read, ranges-read, slice-fits}
+use Rattle.reedgrit.proofs.PassedOn.{Passing, asks-nothing, passed-on}
 use Rattle.reedgrit.proofs.added_calls.reedgrit_charges.Key.{name as #reedgrit-charges}
 use Rattle.reedgrit.proofs.added_calls.reedgrit_charges.Statement as stated
 use Rattle.reedgrit.proofs.added_calls.reedgrit_charges.Code as code
@@ -40,33 +39,17 @@ passing = record {
   values = λ κs. (ptr-vals, (slice-vals, (slice-vals, tt)));
   tells = λ κs. (shr-tells (named 0) (κs .0) P.the-row, (shr-slice-tells (named 1) (κs .1 .0) T.the-row, (shr-slice-tells (named 2) (κs .1 .1 .0) i32, tt)));
   numbers = λ r. chargesAnswer r;
-  required = λ r. none;
   Promised = λ κs a r e. Charged (now (a .0)) (earliests (now (a .1 .0))) (latests (now (a .1 .0))) (now (a .1 .1 .0)) r;
-  Numbered = λ κs a m e. ChargesNumbers (now (a .0)) (now (a .1 .0)) (now (a .1 .1 .0)) m;
+  ways = record-read ∷ ranges-read ∷ as-is (sliceTy (tyRef (named 2) imm (tyInt w32))) ∷ [];
 }
-
-walk : {M : Type 1} → Walks M passing code.function #lent #numbers
-walk 𝓤 H A W C Λ fm known-lent known-numbers κs qs bounds a are =
-    let y = written passing 𝓤 H A κs qs bounds a in
-    let gr = are .1 .0 .0 .1 in
-    let gu = are .1 .1 .0 .0 .1 in
-    qed W (raw (Lent passing 𝓤 H A .pre (y, tt)) ∷ []) ∵ enter ! C Λ code.function _ _ $
-    alloc1 ! (λ l₀. alloc1 ! (λ l₁. alloc1 ! (λ l₂. alloc1 ! (λ l₃. alloc1 ! (λ l₄. alloc0 ! $ params1 ! $
-    pass1 ! (init ! 6 refl (tt, tt)) $ pass1 ! (init ! 4 refl (tt, (tt, (record { fits = gr .0 }, tt)))) $ pass1 ! (init ! 2 refl (tt, (tt, (record { fits = gu .0 }, tt)))) $ pass0 ! $
-    -- [_4; …; _0; …; what is passed]
-    move ! (10 ∷ []) $ calls-open ! fm passing known-lent y
-    (and-then ! (load ! (from ! (stop !)) (look ! 7 refl)) (and-then ! (load ! (from ! (stop !)) (look ! 5 refl)) (and-then ! (load ! (from ! (stop !)) (look ! 3 refl)) (no-more !))))
-    (λ v r us e₁ is₁.
-    -- [what the answer owns; the tokens; what is left; _4; …; _0; …]
-    land ! (from ! (stop !)) (init ! 3 refl (LL.lawful O.the-type O′.the-laws 𝓤 H A W .typed r _ is₁ .0)) $
-    calls-numbers ! fm passing known-numbers r v tt (and-then ! (load ! (from ! (stop !)) (look ! 3 refl)) (no-more !)) (λ w m e₂ is₂.
-    land ! (from ! (stop !)) (init ! 11 refl (LL.lawful N.the-type N′.the-laws 𝓤 H A W .typed m _ is₂ .0)) $
-    returns ! (look ! 11 refl) $ forget ! 11 refl $ forget ! 9 refl $ forget ! 7 refl $ forget ! 5 refl $ forget ! 3 refl $
-    move ! (11 ∷ 12 ∷ []) $ free1 ! $ move ! (9 ∷ 10 ∷ []) $ free1 ! $ move ! (7 ∷ 8 ∷ []) $ free1 ! $ move ! (5 ∷ 6 ∷ []) $ free1 ! $ move ! (3 ∷ 4 ∷ []) $ free1 ! $ free0 ! $
-    keep ! (0 ∷ 1 ∷ 2 ∷ []) $ by ! (ends passing 𝓤 H A W y us w m (record { answer = r; are = e₂; promised = e₁ })))))))))
 
 pub reedgrit-charges-spec : {M : Type 1} → stated.statement M
 unfolding code.routine
 reedgrit-charges-spec 𝓤 H 𝓜 𝓖 𝓡 =
-    passed-on passing 𝓤 H 𝓜 𝓖 𝓡 code.env #reedgrit-charges code.function (code.unfolded 𝓤 H 𝓜 𝓡) #lent lent-def.routine code.calls-disjunctive·open-calls·of-fixed-schedules·charges
-    (lent-thm.met 𝓤 H 𝓜 𝓖 𝓡) #numbers numbers-def.routine code.calls-answers·added-calls·charges-numbers (numbers-thm.met 𝓤 H 𝓜 𝓖 𝓡) walk
+    passed-on passing 𝓤 H 𝓜 𝓖 𝓡 code.env #reedgrit-charges #lent #numbers (code.unfolded 𝓤 H 𝓜 𝓡)
+    lent-def.routine code.calls-disjunctive·open-calls·of-fixed-schedules·charges (lent-thm.met 𝓤 H 𝓜 𝓖 𝓡)
+    (λ r. none) numbers-def.routine code.calls-answers·added-calls·charges-numbers (numbers-thm.met 𝓤 H 𝓜 𝓖 𝓡)
+    (λ r v is. LL.lawful O.the-type O′.the-laws 𝓤 H (𝓖 .A) (givenOf 𝓤 H 𝓜 𝓖) .typed r _ is .0)
+    (λ r v is. LL.lawful N.the-type N′.the-laws 𝓤 H (𝓖 .A) (givenOf 𝓤 H 𝓜 𝓖) .typed r _ is .0) (asks-nothing passing)
+    (λ κs a are. ((tt, tt), (slice-fits (are .1 .0 .0 .1 .0), (slice-fits (are .1 .1 .0 .0 .1 .0), tt))))
+    (λ κs a are bs. (tt, ((refl, (refl, (refl, tt))), refl, λ v. refl, λ v w. refl)))

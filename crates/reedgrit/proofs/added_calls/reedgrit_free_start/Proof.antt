@@ -1,15 +1,13 @@
--- A walk of its MIR, by hand. The record, the ranges, the moment and the duration are passed on to the open call for good, and the numbers of its
+-- The record, the ranges, the moment and the duration are passed on to the open call for good, and the numbers of its
 -- answer are returned.
 use mathlib.Core.Path.{refl}
 use mathlib.Core.List.{[], _∷_}
 use mathlib.Core.Option.{none}
-use mir.Syntax.{named, w32}
-use mir.ValLaws.{ofZ-fits}
-use types.Kit.{raw, _$_, _∵_, !, qed, by, move, keep}
-use types.Run.{look, init, forget, stop, from, load, returns, enter, alloc1, alloc0, params1, pass1, pass0, free1, free0, and-then, no-more, land}
+use mir.Syntax.{named, w32, tyInt}
 use denote.Signed.{sint-vals, sint-tells}
 use denote.Ref.{now, ptr-vals, shr-tells}
 use denote.Slice.{slice-vals, shr-slice-tells}
+use contract.Running.{givenOf}
 use denote.Struct.Laws as LL
 use denote.Enum.Laws as EL
 use Rattle.records.proofs.record.DisjunctivePropagator as P
@@ -24,13 +22,13 @@ use Rattle.disjunctive.proofs.open_calls.of_fixed_schedules.free_start.Symbol a
 use Rattle.disjunctive.proofs.open_calls.of_fixed_schedules.free_start.Symbol.{name as #lent}
 use Rattle.disjunctive.proofs.open_calls.of_fixed_schedules.free_start.Met as lent-thm
 use Rattle.answers.specs.AddedAnswers.{startAnswer}
-use Rattle.reedgrit.specs.AddedCalls.{FreeStartNumbers}
 use Rattle.answers.proofs.added_calls.StartAnswer as N
 use Rattle.answers.proofs.added_calls.StartAnswer.Laws as N′
 use Rattle.answers.proofs.added_calls.start_numbers.Symbol as numbers-def
 use Rattle.answers.proofs.added_calls.start_numbers.Symbol.{name as #numbers}
 use Rattle.answers.proofs.added_calls.start_numbers.Met as numbers-thm
-use Rattle.reedgrit.proofs.PassedOn.{Passing, Lent, written, ends, calls-open, calls-numbers, Walks, passed-on}
+use Rattle.reedgrit.proofs.Ways.{as-is, record-read, ranges-read, slice-fits, number-fits}
+use Rattle.reedgrit.proofs.PassedOn.{Passing, asks-nothing, passed-on}
 use Rattle.reedgrit.proofs.added_calls.reedgrit_free_start.Key.{name as #reedgrit-free-start}
 use Rattle.reedgrit.proofs.added_calls.reedgrit_free_start.Statement as stated
 use Rattle.reedgrit.proofs.added_calls.reedgrit_free_start.Code as code
@@ -43,37 +41,19 @@ passing = record {
   values = λ κs. (ptr-vals, (slice-vals, (sint-vals w32, (sint-vals w32, tt))));
   tells = λ κs. (shr-tells (named 0) (κs .0) P.the-row, (shr-slice-tells (named 1) (κs .1 .0) T.the-row, (sint-tells w32, (sint-tells w32, tt))));
   numbers = λ r. startAnswer (freeStartNumbers r);
-  required = λ r. none;
   Promised = λ κs a r e. FreeStartAnswered (now (a .0)) (earliests (now (a .1 .0))) (latests (now (a .1 .0))) (a .1 .1 .0) (a .1 .1 .1 .0) r;
-  Numbered = λ κs a m e. FreeStartNumbers (now (a .0)) (now (a .1 .0)) (a .1 .1 .0) (a .1 .1 .1 .0) m;
+  ways = record-read ∷ ranges-read ∷ as-is (tyInt w32) ∷ as-is (tyInt w32) ∷ [];
 }
-
-walk : {M : Type 1} → Walks M passing code.function #lent #numbers
-walk 𝓤 H A W C Λ fm known-lent known-numbers κs qs bounds a are =
-    let y = written passing 𝓤 H A κs qs bounds a in
-    let gr = are .1 .0 .0 .1 in
-    let gt = are .1 .1 .0 in
-    let gd = are .1 .1 .1 .0 in
-    qed W (raw (Lent passing 𝓤 H A .pre (y, tt)) ∷ []) ∵ enter ! C Λ code.function _ _ $
-    alloc1 ! (λ l₀. alloc1 ! (λ l₁. alloc1 ! (λ l₂. alloc1 ! (λ l₃. alloc1 ! (λ l₄. alloc1 ! (λ l₅. alloc0 ! $ params1 ! $
-    pass1 ! (init ! 8 refl (tt, tt)) $ pass1 ! (init ! 6 refl (tt, (tt, (record { fits = gr .0 }, tt)))) $ pass1 ! (init ! 4 refl (tt, ofZ-fits w32 (a .1 .1 .0) (record { sfits = gt .1 }))) $ pass1 !
-    (init ! 2 refl (tt, ofZ-fits w32 (a .1 .1 .1 .0) (record { sfits = gd .1 }))) $ pass0 ! $
-    -- [_5; …; _0; …; what is passed]
-    move ! (12 ∷ []) $ calls-open ! fm passing known-lent y
-    (and-then ! (load ! (from ! (stop !)) (look ! 9 refl))
-    (and-then ! (load ! (from ! (stop !)) (look ! 7 refl)) (and-then ! (load ! (from ! (stop !)) (look ! 5 refl)) (and-then ! (load ! (from ! (stop !)) (look ! 3 refl)) (no-more !)))))
-    (λ v r us e₁ is₁.
-    -- [what the answer owns; the tokens; what is left; _5; …; _0; …]
-    land ! (from ! (stop !)) (init ! 3 refl (EL.lawful O.the-type O′.the-laws 𝓤 H A W tt .typed r _ is₁ .0)) $
-    calls-numbers ! fm passing known-numbers r v tt (and-then ! (load ! (from ! (stop !)) (look ! 3 refl)) (no-more !)) (λ w m e₂ is₂.
-    land ! (from ! (stop !)) (init ! 13 refl (LL.lawful N.the-type N′.the-laws 𝓤 H A W .typed m _ is₂ .0)) $
-    returns ! (look ! 13 refl) $ forget ! 13 refl $ forget ! 11 refl $ forget ! 9 refl $ forget ! 7 refl $ forget ! 5 refl $ forget ! 3 refl $
-    move ! (13 ∷ 14 ∷ []) $ free1 ! $ move ! (11 ∷ 12 ∷ []) $ free1 ! $ move ! (9 ∷ 10 ∷ []) $ free1 ! $ move ! (7 ∷ 8 ∷ []) $ free1 ! $ move ! (5 ∷ 6 ∷ []) $ free1 ! $ move !
-    (3 ∷ 4 ∷ []) $ free1 ! $ free0 ! $
-    keep ! (0 ∷ 1 ∷ 2 ∷ []) $ by ! (ends passing 𝓤 H A W y us w m (record { answer = r; are = e₂; promised = e₁ }))))))))))
 
 pub reedgrit-free-start-spec : {M : Type 1} → stated.statement M
 unfolding code.routine
 reedgrit-free-start-spec 𝓤 H 𝓜 𝓖 𝓡 =
-    passed-on passing 𝓤 H 𝓜 𝓖 𝓡 code.env #reedgrit-free-start code.function (code.unfolded 𝓤 H 𝓜 𝓡) #lent lent-def.routine code.calls-disjunctive·open-calls·of-fixed-schedules·free-start
-    (lent-thm.met 𝓤 H 𝓜 𝓖 𝓡) #numbers numbers-def.routine code.calls-answers·added-calls·start-numbers (numbers-thm.met 𝓤 H 𝓜 𝓖 𝓡) walk
+    passed-on passing 𝓤 H 𝓜 𝓖 𝓡 code.env #reedgrit-free-start #lent #numbers (code.unfolded 𝓤 H 𝓜 𝓡)
+    lent-def.routine code.calls-disjunctive·open-calls·of-fixed-schedules·free-start (lent-thm.met 𝓤 H 𝓜 𝓖 𝓡)
+    (λ r. none) numbers-def.routine code.calls-answers·added-calls·start-numbers (numbers-thm.met 𝓤 H 𝓜 𝓖 𝓡)
+    (λ r v is. EL.lawful O.the-type O′.the-laws 𝓤 H (𝓖 .A) (givenOf 𝓤 H 𝓜 𝓖) tt .typed r _ is .0)
+    (λ r v is. LL.lawful N.the-type N′.the-laws 𝓤 H (𝓖 .A) (givenOf 𝓤 H 𝓜 𝓖) .typed r _ is .0) (asks-nothing passing)
+    (λ κs a are.
+    let g = are .1 .1 in
+    ((tt, tt), (slice-fits (are .1 .0 .0 .1 .0), (number-fits (a .1 .1 .0) (record { sfits = g .0 .1 }), (number-fits (a .1 .1 .1 .0) (record { sfits = g .1 .0 .1 }), tt)))))
+    (λ κs a are bs. (tt, ((refl, (refl, (refl, (refl, tt)))), refl, λ v. refl, λ v w. refl)))
