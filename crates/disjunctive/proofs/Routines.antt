@@ -4,7 +4,7 @@ use prog.Wp.{Tables}
 use contract.Running.{tablesOf}
 use sound.WpLaws.{WpFn-mono}
 use denote.Triple.Walked.{AllGo, walk-meets}
-use Rattle.disjunctive.proofs.Calls.{ContractOf}
+use Rattle.ranges.proofs.Calls.{ContractOf}
 
 pub by-walk : {M : Type 1} (𝓤 : URA M) (H : Heap 𝓤) (𝓜 : Model 𝓤 H) (𝓖 : GhostRules 𝓤 H) (𝓡 : Running 𝓤 H 𝓜) (T : Ended) (hs : Stays (T .signature .params) (T .kept))
     → AllGo 𝓤 H (𝓖 .A) (givenOf 𝓤 H 𝓜 𝓖) (T .signature .lifetimes) (T .signature .params) (T .kept) hs → (c : Clauses 𝓤 T) (env : Names) (key : Name) (fn : Fn)

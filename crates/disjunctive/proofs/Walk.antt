@@ -46,7 +46,7 @@ pub use denote.Triple.Table.{cited, entered}
 pub use denote.Triple.Walked.{ends-at, gave-slice, goes-dropped, goes-gave-slice, says, stay-dropped, Stays, walked, walkOf, Walks}
 pub use Rattle.integers.specs.Limits.{TASKS}
 pub use Rattle.ranges.proofs.TakenApart.{starts-fit, starts-of}
-pub use Rattle.ranges.proofs.starts.Lending.{calls-reader-mut, calls-store, rangesAt, rangesVal, Reads, Store, TakenWithBars}
+pub use Rattle.ranges.proofs.starts.Lending.{calls-reader-mut, rangesAt, rangesVal, Reads, TakenWithBars}
 pub use Rattle.ranges.proofs.starts.starts_with_bars.Symbol.{name as #with-bars}
 pub use Rattle.ranges.proofs.starts.store_starts.Symbol.{name as #store-starts}
 pub use Rattle.ranges.specs.Ranges.{earliests, latests}

@@ -1,7 +1,6 @@
 pub mod LentRecord
-pub mod CoreCalls
-pub mod PropagateCalls
 pub mod StartsReaders
 pub mod LentAgain
+pub mod StoringCalls
 pub mod ReadOnlyCalls
 pub mod ReadCalls

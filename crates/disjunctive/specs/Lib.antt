@@ -1,4 +1,2 @@
 pub mod GivenRanges
-pub mod Cores
-pub mod PrecedencesCore
 pub mod Examples

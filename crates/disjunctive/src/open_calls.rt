@@ -6,14 +6,13 @@ pub mod by_precedence;
 pub mod of_conflicts;
 pub mod of_fixed_schedules;
 
-use crate::cores::mirrored_core;
 use crate::cores::overload_core;
 use integers::limits::TASKS;
+use mirrored::mirrored_propagator::propagate_mirrored;
 use overload_test::Overload;
 use propagator::disjunctive_propagator::propagate;
 use ranges::bars::all_bars_fit;
 use ranges::range::Range;
-use ranges::starts::Starts;
 use ranges::starts::starts_with_bars;
 use ranges::starts::store_latest;
 use ranges::starts::store_starts;
@@ -50,12 +49,7 @@ pub fn run(
         posts,
         atoms,
     );
-    let starts = Starts {
-        count,
-        earliest,
-        latest,
-    };
-    store_starts(ranges, starts);
+    store_starts(ranges, &earliest[..count]);
     *propagator = ran.record;
     Finished {
         outcome: ran.outcome,
@@ -73,10 +67,20 @@ pub fn run_mirrored(
     ensures { λ r. ⌜ RanMirroredLent (now (propagator .entry)) (now (ranges .entry)) (now (posts .entry)) (now (atoms .entry)) r (now (ranges .exit))
         (now (posts .exit)) (now (atoms .exit)) ⌝ }
 {
-    let starts = starts_with_bars(ranges);
-    let ran = mirrored_core(*propagator, starts, posts, atoms);
-    store_latest(ranges, ran.starts);
-    ran.outcome
+    let bars_fit = all_bars_fit(ranges);
+    let mut earliest = [0; TASKS];
+    let mut latest = [0; TASKS];
+    let count = take_apart(ranges, &mut earliest, &mut latest);
+    let outcome = propagate_mirrored(
+        *propagator,
+        &earliest[..count],
+        &mut latest[..count],
+        bars_fit,
+        posts,
+        atoms,
+    );
+    store_latest(ranges, &latest[..count]);
+    outcome
 }
 
 // Whether some set of the record's tasks overloads in these ranges. Nothing lent is changed.

@@ -1,10 +1,8 @@
-// The pass by precedences, one task's bound and its reason, on the first `count` places of the arrays.
+// One task's bound by precedences and its reason, on the first `count` places of the arrays.
 use integers::limits::TASKS;
-use precedences::answers::Precedences;
 use precedences::bounds::precedence_bound;
 use precedences::reason::BoundAbove;
 use precedences::reason::Reason;
-use ranges::starts::Starts;
 use ranges::starts::StartsWithBars;
 use records::record::DisjunctivePropagator;
 ghost use Prim.Native.Nat.{_≤_};
@@ -12,42 +10,6 @@ ghost use Rattle.integers.specs.Limits.{TASKS};
 ghost use Rattle.ranges.specs.TakenApart.{firstEarliest, firstLatest};
 ghost use Rattle.precedences.specs.Bounds.{BoundGiven};
 ghost use Rattle.precedences.specs.Reasons.{ReasonGiven};
-ghost use Rattle.disjunctive.specs.PrecedencesCore.{PrecedencesCore};
-
-// What a pass on ranges that are taken apart returns.
-pub struct CorePrecedences {
-    pub answer: Precedences,
-    pub starts: Starts,
-}
-
-// The pass on the first `count` places of the arrays.
-pub(crate) fn precedences_core(
-    record: DisjunctivePropagator,
-    ranges: StartsWithBars,
-) -> CorePrecedences
-    requires { ⌜ ranges .starts .count ≤ TASKS ⌝ }
-    ensures { λ r. ⌜ PrecedencesCore «record» ranges r ⌝ }
-{
-    let starts = ranges.starts;
-    let n = starts.count;
-    let mut earliest = starts.earliest;
-    let latest = starts.latest;
-    let answer = precedences::pass::precedences(
-        record,
-        &mut earliest[..n],
-        &latest[..n],
-        ranges.bars_fit,
-    );
-    let raised = Starts {
-        count: n,
-        earliest,
-        latest,
-    };
-    CorePrecedences {
-        answer,
-        starts: raised,
-    }
-}
 
 // A task's bound over the first `count` places of the arrays.
 pub(crate) fn bound_core(

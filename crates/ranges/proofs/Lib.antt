@@ -1,4 +1,5 @@
 pub mod Prelude
+pub mod Calls
 pub mod BarTests
 pub mod MovedStarts
 pub mod AlikeRanges

@@ -20,6 +20,10 @@ numbers = tyArray (tyInt w32) TASKS
 abbrev pub machine : List ℤ → Val
 machine zs = arrayVal (map (λ (z : ℤ). vint w32 (ofZ w32 z)) zs)
 
+-- an array as a field of a struct holds it
+abbrev pub copied : List ℤ → List ℤ
+copied us = map (λ (z : ℤ). z) us
+
 each-zero : (n : ℕ) → shadow (each ℤ (i32 .own) (replicate n (pos 0)) (map (λ (z : ℤ). vint w32 (ofZ w32 z)) (replicate n (pos 0))))
 each-zero zero = tt
 each-zero (suc n) = ((refl, lit< tt), each-zero n)

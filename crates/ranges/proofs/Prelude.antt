@@ -24,13 +24,13 @@ unfoldable pub use prog.Wp.{afterTurn, WpFn}
 pub use prog.Memory.{Memory}
 pub use prog.Routine.{Routine}
 pub use ghost.Atoms.{Atoms, sem}
-pub use contract.Monad.{fact, Fun}
+pub use contract.Monad.{fact, factI, Fun}
 pub use contract.Running.{givenOf, tables}
 unfoldable pub use contract.Running.{tablesOf}
 pub use sound.Loop.{loop-rule}
 pub use sound.WpLaws.{FmC, WpFn-mono, fmOf}
 pub use types.Kit.{Given, Item, ⋆, Goal, allocs, frees, ‵, push, pop, Seq, Step, step, _$_, _∵_, !, qed, by, move, fsplit, fjoin, drop, done, use1, rewrite, fpick, fpack, feqI, suffices, raw, _⊛_}
-pub use types.Kit.{some, later, split, join, pick, frame, await, Post as PostOf, runs, lands, use2, feqL, keep, anyQ, given, mean, atRet, learn, post, prop}
+pub use types.Kit.{some, later, split, join, pick, frame, await, Post as PostOf, runs, lands, use0, use2, feqL, keep, anyQ, given, mean, atRet, learn, post, prop}
 pub use types.Run.{alloc1, alloc0, free1, free0, Opds, init, enter, params1, pass1, pass0, look, store, forget, stop, hop, fld, from, load, lit, of-opd, bin, assigns, assigns-last, stays, leaves-loop}
 pub use types.Run.{exec, unit-lit, addr, returns, and-then, no-more, land, Opd, true-lit, false-lit, un, first, branches, skips, returns-within}
 pub use types.Share.{arr-parts}
@@ -48,7 +48,7 @@ pub use denote.Builtin.{i32, unit, usize, bool}
 pub use denote.Signed.{sint-vals, sint-tells, sint-makes, sint-lawful}
 pub use denote.Index.{row, opens-slice, closes-slice, place, place-is, elem-out, elem-back, looks-slice, shuts-slice, others, elem-put}
 pub use denote.Exit.{yes}
-pub use denote.Signature.{plain, shrSliceOf}
+pub use denote.Signature.{plain, shrSliceOf, typeAt}
 pub use denote.Triple.Statement.{Contract, Triple}
 pub use denote.Triple.Call.{calls-at, calls-from}
 pub use denote.Triple.Clauses.{Ended, Clauses, closing, ensured, lasts}

@@ -4,3 +4,4 @@ pub mod ReadLoop
 pub mod StoreLoop
 pub mod StoreWalk
 pub mod LentArrays
+pub mod StoreCalls

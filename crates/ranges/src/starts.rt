@@ -6,8 +6,7 @@ use crate::range::Range;
 use integers::limits::TASKS;
 ghost use mathlib.Core.Path.{_≡_};
 ghost use Prim.Native.Nat.{_≤_};
-ghost use lib.ListN.{length, take};
-ghost use Rattle.integers.specs.Limits.{TASKS};
+ghost use lib.ListN.{length};
 ghost use Rattle.ranges.specs.Ranges.{withStarts, withLatests};
 ghost use Rattle.ranges.specs.TakenApart.{taken, TakenInto, startsOf, startsWithBars};
 
@@ -73,29 +72,27 @@ pub fn starts_with_bars(ranges: &[Range]) -> StartsWithBars
 }
 
 // The earliest starts, put back into the ranges that they were taken from: one that was raised moves on to a permitted value.
-pub fn store_starts(ranges: &mut [Range], starts: Starts)
-    requires { ⌜ (starts .count ≤ TASKS) × (starts .count ≤ length (now ranges)) ⌝ }
-    ensures { λ _. ⌜ now (ranges .exit) ≡ withStarts (now (ranges .entry)) (take (starts .count) (starts .earliest)) ⌝ }
+pub fn store_starts(ranges: &mut [Range], starts: &[i32])
+    requires { ⌜ length (now starts) ≤ length (now ranges) ⌝ }
+    ensures { λ _. ⌜ now (ranges .exit) ≡ withStarts (now (ranges .entry)) (now (starts .entry)) ⌝ }
 {
-    let count = starts.count;
-    let earliest = starts.earliest;
+    let count = starts.len();
     let mut i = 0;
     while i < count {
-        ranges[i].earliest = stored_start(ranges[i], earliest[i]);
+        ranges[i].earliest = stored_start(ranges[i], starts[i]);
         i += 1;
     }
 }
 
 // The latest starts, put back into the ranges that they were taken from: one that was lowered moves back to a permitted value.
-pub fn store_latest(ranges: &mut [Range], starts: Starts)
-    requires { ⌜ (starts .count ≤ TASKS) × (starts .count ≤ length (now ranges)) ⌝ }
-    ensures { λ _. ⌜ now (ranges .exit) ≡ withLatests (now (ranges .entry)) (take (starts .count) (starts .latest)) ⌝ }
+pub fn store_latest(ranges: &mut [Range], starts: &[i32])
+    requires { ⌜ length (now starts) ≤ length (now ranges) ⌝ }
+    ensures { λ _. ⌜ now (ranges .exit) ≡ withLatests (now (ranges .entry)) (now (starts .entry)) ⌝ }
 {
-    let count = starts.count;
-    let latest = starts.latest;
+    let count = starts.len();
     let mut i = 0;
     while i < count {
-        ranges[i].latest = stored_latest(ranges[i], latest[i]);
+        ranges[i].latest = stored_latest(ranges[i], starts[i]);
         i += 1;
     }
 }

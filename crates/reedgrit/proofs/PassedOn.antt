@@ -35,7 +35,7 @@ use denote.Triple.Statement.{Contract, Triple}
 use denote.Triple.Table.{entered, cited}
 use denote.Triple.Walked.{says}
 use Rattle.answers.specs.SourceAnswers.{NumbersOf}
-use Rattle.disjunctive.proofs.Calls.{ContractOf, calls-by}
+use Rattle.ranges.proofs.Calls.{ContractOf, calls-by}
 use Rattle.disjunctive.proofs.Locals.{Cell, cellAt, store, passing as passed-in, envOf, Blocks, fresh, locals, At, copies, Fit, local-at, local-init}
 use Rattle.disjunctive.proofs.Locals.{stored, finds-local, copied, allocates, passes-params, frees-locals}
 use Rattle.reedgrit.proofs.Ways.{Way, wayTys, lentTys, operands, lends, Found, at-of, AllFound, all-at, LentAt, lent-cells, runs-lent}

@@ -42,7 +42,7 @@ use Rattle.disjunctive.proofs.by_value.Ranges.Laws as N′
 use Rattle.disjunctive.proofs.by_value.lent.Symbol as lent-def
 use Rattle.disjunctive.proofs.by_value.lent.Symbol.{name as #lent}
 use Rattle.disjunctive.proofs.by_value.lent.Met as lent-thm
-use Rattle.disjunctive.proofs.Calls.{ContractOf, calls-by}
+use Rattle.ranges.proofs.Calls.{ContractOf, calls-by}
 use Rattle.disjunctive.proofs.Locals.{Cell, cells, cellAt, store, stores, passing, envOf, Blocks, fresh, homed, nowhere, env-store, At, copies, Fit, local-at, local-init, stored}
 use Rattle.disjunctive.proofs.Locals.{finds-local, allocates}
 use Rattle.disjunctive.proofs.Locals.{passes-params, frees-locals}

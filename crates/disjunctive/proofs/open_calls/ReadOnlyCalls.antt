@@ -1,12 +1,11 @@
 -- An open call that leaves the record and the ranges unchanged: it reads the starts off the ranges, copies the record, passes both to its core, and returns the core's answer.
 -- One walk, over what is read, what else the core is passed, and what is said of an answer.
-use Rattle.disjunctive.proofs.Walk.{_≡_, sym, ap, _∙_, subst, ℕ, zero, suc, _<_, _≤_, Bool, List, Option, Decided, ℤ, URA, Name, Ty, deref, place, copy, seq, assign, call, Fn, Val, WT, hasTy}
-use Rattle.disjunctive.proofs.Walk.{vptr, SProp, ent, sep, emp, id⊢, via, fst∗, ftrue, fsep, flft, Model, Routine, Names, Heap, Calls, Loops, Env, WpFn, Closed, Atoms, sem, fact, factI}
-use Rattle.disjunctive.proofs.Walk.{GhostRules, Running, tables, FmC, fmOf, Given, Item, ‵, raw, _⊛_, ⋆, _$_, _∵_, !, qed, by, move, keep, drop, use0, use1, split, join, fsplit, fsplit3}
-use Rattle.disjunctive.proofs.Walk.{fjoin, frame, done, look-in, look, stop, hop, from, load, of-opd, assigns, returns, enter, and-then, no-more, land, yes, RattleType, owns, Is, pointee}
-use Rattle.disjunctive.proofs.Walk.{ShrRef, ptr-vals, shr-tells, nothing, owned, heard, Ended, Clauses, Contract, Triple, entered, cited, says, TASKS, DisjunctivePropagator, earliests}
-use Rattle.disjunctive.proofs.Walk.{latests, firstEarliest, firstLatest, Range, rangesVal, Reads, refl, [], _∷_, some, none, length, tyRef, named, imm, mut, givenOf, now, sliceTy, slice-vals}
-use Rattle.disjunctive.proofs.Walk.{shr-slice-tells, plain}
+use Rattle.disjunctive.proofs.Walk.{_≡_, sym, ap, _∙_, subst, ℕ, suc, _<_, _≤_, Bool, List, Option, Decided, ℤ, URA, Name, Ty, deref, place, copy, seq, assign, call, Fn, Val, WT, hasTy, vptr}
+use Rattle.disjunctive.proofs.Walk.{SProp, ent, sep, emp, id⊢, via, fst∗, ftrue, fsep, flft, Model, Routine, Names, Heap, Calls, Loops, WpFn, Closed, Atoms, sem, fact, factI, GhostRules}
+use Rattle.disjunctive.proofs.Walk.{Running, tables, FmC, fmOf, Given, Item, ‵, raw, _⊛_, ⋆, _$_, _∵_, !, qed, by, move, keep, drop, use0, use1, split, join, fsplit, fsplit3, fjoin, frame}
+use Rattle.disjunctive.proofs.Walk.{done, look-in, look, stop, hop, from, load, of-opd, assigns, returns, enter, and-then, no-more, land, yes, RattleType, owns, Is, pointee, ShrRef, ptr-vals}
+use Rattle.disjunctive.proofs.Walk.{shr-tells, nothing, owned, heard, Ended, Clauses, Contract, Triple, entered, cited, says, TASKS, DisjunctivePropagator, earliests, latests, firstEarliest}
+use Rattle.disjunctive.proofs.Walk.{firstLatest, Range, rangesVal, Reads, refl, [], _∷_, some, none, length, tyRef, named, imm, givenOf, now, sliceTy, slice-vals, shr-slice-tells, plain}
 use mathlib.Core.List.{_++_}
 use mir.Syntax.{rvOpd, return, valueLocal}
 use base.Logic.{ex, snd∗}
@@ -24,9 +23,9 @@ use Rattle.records.proofs.record.DisjunctivePropagator as P
 use Rattle.records.proofs.record.DisjunctivePropagator.Laws as P′
 use Rattle.ranges.proofs.starts.Lending.{calls-reader}
 use Rattle.ranges.proofs.range.Range as T
-use Rattle.disjunctive.proofs.Calls.{ContractOf, calls-by}
-use Rattle.disjunctive.proofs.Locals.{Cell, cells, store, stores, passing, envOf, Blocks, fresh, locals, env-store, env-stores, env-passing, At, AllAt, copies, Fit, local-at, local-init}
-use Rattle.disjunctive.proofs.Locals.{stored, finds-local, copied, allocates, passes-params, frees-locals}
+use Rattle.ranges.proofs.Calls.{ContractOf, calls-by}
+use Rattle.disjunctive.proofs.Locals.{Cell, store, stores, passing, envOf, Blocks, fresh, locals, env-store, env-stores, env-passing, At, AllAt, copies, Fit, local-at, local-init, stored}
+use Rattle.disjunctive.proofs.Locals.{finds-local, copied, allocates, passes-params, frees-locals}
 use Rattle.disjunctive.proofs.open_calls.LentAgain.{lends-again, againTys, lent-again, first-kept, AgainAt, runs-again}
 use Rattle.disjunctive.proofs.open_calls.LentRecord.{machP, looks-into, shuts-record}
 use Rattle.disjunctive.proofs.open_calls.StartsReaders.{Reader, Read, readTy, Says, startsIn, barsIn, barsFit, nameOf, routineOf, few, said-of, read-typed, read-met}

@@ -1,13 +1,15 @@
 // The open calls by precedences, on lent ranges: the pass raises earliest starts in them; one task's bound and its reason are read off them.
 use crate::precedence_cores::bound_core;
-use crate::precedence_cores::precedences_core;
 use crate::precedence_cores::reason_core;
+use integers::limits::TASKS;
 use precedences::answers::Precedences;
 use precedences::reason::BoundAbove;
 use precedences::reason::Reason;
+use ranges::bars::all_bars_fit;
 use ranges::range::Range;
 use ranges::starts::starts_with_bars;
 use ranges::starts::store_starts;
+use ranges::starts::take_apart;
 use records::record::DisjunctivePropagator;
 ghost use Rattle.precedences.specs.Bounds.{BoundGiven};
 ghost use Rattle.precedences.specs.Reasons.{ReasonGiven};
@@ -19,10 +21,18 @@ ghost use Rattle.promises.specs.PrecedencesLent.{PrecedencesLent};
 pub fn precedences(propagator: &DisjunctivePropagator, ranges: &mut [Range]) -> Precedences
     ensures { λ r. ⌜ PrecedencesLent (now (propagator .entry)) (now (ranges .entry)) r (now (ranges .exit)) ⌝ }
 {
-    let starts = starts_with_bars(ranges);
-    let ran = precedences_core(*propagator, starts);
-    store_starts(ranges, ran.starts);
-    ran.answer
+    let bars_fit = all_bars_fit(ranges);
+    let mut earliest = [0; TASKS];
+    let mut latest = [0; TASKS];
+    let count = take_apart(ranges, &mut earliest, &mut latest);
+    let answer = precedences::pass::precedences(
+        *propagator,
+        &mut earliest[..count],
+        &latest[..count],
+        bars_fit,
+    );
+    store_starts(ranges, &earliest[..count]);
+    answer
 }
 
 // The task's bound over the lent ranges, where it is above the earliest start. Nothing lent is changed.

@@ -1,22 +1,19 @@
--- What the walks share that call functions on lent ranges: the call of one that reads them, where they are lent as `&` and as `&mut`, and that of `store_starts`.
+-- What the walks share that call functions on lent ranges: the call of one that reads them, where they are lent as `&` and as `&mut`.
 use Rattle.ranges.proofs.Prelude
-use Prelude.{_≡_, refl, List, [], _∷_, ℕ, _≤_, length, take, URA, fullShare, Body, Name, Operand, Place, seq, call, named, Val, SProp, ent, exE, snd∗, emp, id⊢, sep, Fml, ftrue, Lft, GName, Share}
-use Prelude.{fobs, fauth, flft, flent, fbor, fobor, Heap, Env, Calls, Loops, Memory, Routine, Atoms, sem, fact, Fun, FmC, Given, Item, ‵, Seq, _$_, _∵_, !, qed, move, fsplit, fjoin, drop, done, use1}
-use Prelude.{feqI, raw, _⊛_, some, later, split, join, pick, frame, await, PostOf as Post, runs, lands, use2, feqL, Opds, arr-parts, lft-new, lft-end, lent-back, nothing, owned, peeks, facts, heard}
-use Prelude.{RattleType, Is, shows, shares, unit, opens-slice, closes-slice, yes, plain, shrSliceOf, Contract, Triple, calls-at, Ended, Clauses, closing, ensured, lasts, tripleOf, RefT, now, sliceVal}
-use Prelude.{MutSlice, ShrSlice, Room, codedHoleys, heres, finally, Held, lends-shr-slice, says, TASKS, Range, Starts}
+use Prelude.{_≡_, refl, List, [], _∷_, ℕ, length, URA, fullShare, Body, Name, Operand, Place, seq, call, named, Val, emp, id⊢, Fml, ftrue, Lft, GName, Share, fobs, fauth, flft, flent, fbor, fobor}
+use Prelude.{Heap, Env, Calls, Loops, Atoms, fact, FmC, Given, Item, ‵, Seq, _$_, move, fsplit, fjoin, drop, use1, feqI, raw, _⊛_, some, later, split, join, pick, await, PostOf as Post, runs, lands}
+use Prelude.{Opds, arr-parts, lft-new, lft-end, lent-back, nothing, heard, RattleType, Is, shares, opens-slice, closes-slice, yes, plain, shrSliceOf, Contract, Triple, Ended, Clauses, closing}
+use Prelude.{tripleOf, RefT, now, sliceVal, ShrSlice, Room, codedHoleys, heres, Held, lends-shr-slice, Range, Starts}
 use denote.Struct.Laws as LL
-use Rattle.ranges.specs.Ranges.{withStarts}
 use Rattle.ranges.specs.TakenApart.{startsOf, startsWithBars}
 use Rattle.ranges.specs.declared.starts.StartsWithBars.{StartsWithBars}
+use Rattle.ranges.proofs.Calls.{calls-by}
 use Rattle.ranges.proofs.range.Range as T
 use Rattle.ranges.proofs.range.Range.Laws as T′
 use Rattle.ranges.proofs.starts.Starts as S
 use Rattle.ranges.proofs.starts.Starts.Laws as S′
 use Rattle.ranges.proofs.starts.StartsWithBars as B
 use Rattle.ranges.proofs.starts.StartsWithBars.Laws as B′
-use Rattle.ranges.proofs.starts.store_starts as store-starts
-use Rattle.ranges.proofs.starts.store_starts.Symbol.{name as #store-starts}
 
 -- the machine values of a range, of starts, without the bars' answer and with it, and of lent ranges
 abbrev pub mach : Range → Val
@@ -59,14 +56,6 @@ module _ (R : RattleType) (Said : List Range → R .Denot → Type 0) where
     abbrev pub to-reader : Lft → Share → RefT (List Range) → Reads .Ghost
     to-reader κ p x = (((κ, tt), (p, tt), tt, (x, tt), (rangesVal x ∷ [], tt)), tt)
 
-    reader-said : (κ : Lft) (x : RefT (List Range)) (r : R .Denot) → ent 𝓤 (ensured 𝓤 H A reader reading (κ, tt) (x, tt) tt r) (fact 𝓤 (Said (now x) r))
-    reader-said κ x r = exE 𝓤 _ (λ ws. snd∗ 𝓤 (sem 𝓤 H A (lasts reader (κ, tt) (x, tt) ws)) (fact 𝓤 (Said (now x) r)))
-
-    goes-reader : Given 𝓤 H A → (κ : Lft) (p : Share) (x : RefT (List Range))
-        → ent 𝓤 (sep 𝓤 (A .lft κ p) (sem 𝓤 H A (ShrSlice (named 0) κ T.the-row .own x (rangesVal x ∷ [])))) (Reads .pre (to-reader κ p x))
-    goes-reader W κ p x = qed W (‵ (flft κ p) ∷ ‵ (ShrSlice (named 0) κ T.the-row .own x (rangesVal x ∷ [])) ∷ []) ∵
-        nothing ! $ move ! (2 ∷ 0 ∷ []) $ fjoin ! $ nothing ! $ move ! (2 ∷ 0 ∷ []) $ join ! $ join ! $ frame ! $ done !
-
 -- what `starts_of` and `starts_with_bars` say
 abbrev pub Taken : List Range → Starts → Type 0
 Taken ys s = s ≡ startsOf ys
@@ -82,12 +71,10 @@ module _ {M : Type 1} {𝓤 : URA M} {H : Heap 𝓤} {A : Atoms 𝓤} {K : Type 
       → ((w : Val) (r : R .Denot) → Said (now x) r → Is R r (w ∷ []) → Seq K W (‵ (R .own r (w ∷ [])) ∷ (‵ (flft κ p) ⊛ ‵ ftrue) ∷ Γ) (lands C Λ E d w rest q))
       → Seq K W (‵ (flft κ p) ∷ ‵ (ShrSlice (named 0) κ T.the-row .own x (rangesVal x ∷ [])) ∷ Γ) (runs C Λ E (seq (call f xs d) rest) q)
   calls-reader t fm R Said known κ p x os k =
-      use2 W (raw (Reads R Said 𝓤 H A .pre (to-reader R Said 𝓤 H A κ p x))) (goes-reader R Said 𝓤 H A W κ p x) $
-      calls-at t fm (Reads R Said 𝓤 H A) known (to-reader R Said 𝓤 H A κ p x) os (λ w.
-      use1 W (later (some (λ (r : R .Denot). ((‵ (flft κ p) ⊛ ‵ ftrue) ⊛ ‵ (R .own r (w ∷ []))) ⊛ raw (ensured 𝓤 H A (reader R Said) (reading R Said 𝓤 H A) (κ, tt) (x, tt) tt r))))
-      (id⊢ 𝓤 _) $ await t tt $ pick t (λ r.
-      split t $ move t (1 ∷ []) $ use1 W (raw (fact 𝓤 (Said (now x) r))) (reader-said R Said 𝓤 H A κ x r) $ heard t (Said (now x) r) (λ e. split t $ move t (1 ∷ []) $
-      peeks t R (Is R) (shows 𝓤 H A R) r (w ∷ []) (λ is. k w r e is))))
+      nothing t $ move t (2 ∷ 0 ∷ []) $ fjoin t $ nothing t $ move t (2 ∷ 0 ∷ []) $ join t $ join t $ nothing t $ move t (1 ∷ 0 ∷ []) $ join t $
+      use1 W (raw (Reads R Said 𝓤 H A .pre (to-reader R Said 𝓤 H A κ p x))) (id⊢ 𝓤 _) $
+      calls-by t fm (reader R Said) (reading R Said 𝓤 H A) known (to-reader R Said 𝓤 H A κ p x) os (λ w r ws is. move t (3 ∷ []) $ heard t (Said (now x) r) (λ e.
+      move t (2 ∷ []) $ drop t $ move t (1 ∷ []) $ use1 W (‵ (flft κ p) ⊛ ‵ ftrue) (id⊢ 𝓤 _) $ move t (1 ∷ []) $ k w r e is))
 
 -- ---- ranges lent as `&mut` are opened, lent as a `&` for a lifetime of the call, come back, and are closed
 module _ {M : Type 1} {𝓤 : URA M} {H : Heap 𝓤} {A : Atoms 𝓤} {K : Type 0} {W : Given 𝓤 H A} {Γ : List (Item 𝓤)} where
@@ -108,36 +95,3 @@ module _ {M : Type 1} {𝓤 : URA M} {H : Heap 𝓤} {A : Atoms 𝓤} {K : Type 
       -- [what the result owns; the lifetime's token; the ranges, to come back; the open borrow; obs; auth]
       move t (1 ∷ []) $ split t $ lft-end t tt $ move t (0 ∷ 3 ∷ []) $ lent-back t tt $ fsplit t $ drop t $
       move t (0 ∷ 3 ∷ 4 ∷ 5 ∷ []) $ closes-slice t tt T.the-row ys ys refl b o $ move t (3 ∷ []) $ drop t $ k w r e is)))
-
--- ---- ranges lent as `&mut` are passed on for good to `store_starts`
-module _ {M : Type 1} (𝓤 : URA M) (H : Heap 𝓤) (A : Atoms 𝓤) (at-mem : Memory → SProp 𝓤) (run : Routine → Fun 𝓤) where
-  abbrev pub Store : Contract 𝓤
-  Store = tripleOf 𝓤 H A store-starts.signature (store-starts.spec 𝓤 H A at-mem run)
-
-  abbrev pub to-store : Lft → Share → RefT (List Range) → Starts → Store .Ghost
-  to-store κ p x s = (((κ, tt), (p, tt), tt, (x, (s, tt)), (rangesVal x ∷ [], (machS s ∷ [], tt))), tt)
-
-  goes-store : Given 𝓤 H A → (κ : Lft) (p : Share) (x : RefT (List Range)) (s : Starts) → (s .count ≤ TASKS) × (s .count ≤ length (now x)) → Is S.the-row s (machS s ∷ [])
-      → ent 𝓤 (sep 𝓤 (sep 𝓤 (A .lft κ p) (sem 𝓤 H A ftrue)) (sem 𝓤 H A (MutSlice (named 0) κ T.the-row .own x (rangesVal x ∷ [])))) (Store .pre (to-store κ p x s))
-  goes-store W κ p x s fit gs = qed W ((‵ (flft κ p) ⊛ ‵ ftrue) ∷ ‵ (MutSlice (named 0) κ T.the-row .own x (rangesVal x ∷ [])) ∷ []) ∵ says ! fit $
-      nothing ! $ owned ! S.the-row (Is S.the-row) ((LL.makes S.the-type S′.the-plain) 𝓤 H A) s _ gs $ fjoin ! $ move ! (2 ∷ 0 ∷ []) $ fjoin ! $ move ! (1 ∷ 0 ∷ []) $ frame ! $ done !
-
-module _ {M : Type 1} {𝓤 : URA M} {H : Heap 𝓤} {A : Atoms 𝓤} {K : Type 0} {W : Given 𝓤 H A} {Γ : List (Item 𝓤)} where
-  pub calls-store : {C : Calls 𝓤 H} {Λ : Loops 𝓤 H} {E : Env 𝓤 H} {q : Post 𝓤 H} {xs : List Operand} {d : Place} {rest : Body}
-      → K → FmC 𝓤 H (W .laws) C → (at-mem : Memory → SProp 𝓤) (run : Routine → Fun 𝓤) → Triple 𝓤 (C #store-starts) (Store 𝓤 H A at-mem run) → (κ : Lft) (p : Share) (x : RefT (List Range)) (s : Starts)
-      → (s .count ≤ TASKS) × (s .count ≤ length (now x)) → Is S.the-row s (machS s ∷ [])
-      → Opds K W (raw (Store 𝓤 H A at-mem run .pre (to-store 𝓤 H A at-mem run κ p x s)) ∷ Γ) E xs (rangesVal x ∷ machS s ∷ [])
-      → ((w : Val) (zs : List Range) → zs ≡ withStarts (now x) (take (s .count) (s .earliest)) → length zs ≡ length (now x) → Is unit tt (w ∷ [])
-      → Seq K W ((‵ (flft κ p) ⊛ ‵ ftrue) ∷ ‵ (finally T.the-row (x .name) zs) ∷ Γ) (lands C Λ E d w rest q))
-      → Seq K W ((‵ (flft κ p) ⊛ ‵ ftrue) ∷ ‵ (MutSlice (named 0) κ T.the-row .own x (rangesVal x ∷ [])) ∷ Γ) (runs C Λ E (seq (call #store-starts xs d) rest) q)
-  calls-store t fm at-mem run known κ p x s fit gs os k =
-      use2 W (raw (Store 𝓤 H A at-mem run .pre (to-store 𝓤 H A at-mem run κ p x s))) (goes-store 𝓤 H A at-mem run W κ p x s fit gs) $
-      calls-at t fm (Store 𝓤 H A at-mem run) known (to-store 𝓤 H A at-mem run κ p x s) os (λ w.
-      use1 W (later (some (λ (u : Unit {0}). ((‵ (flft κ p) ⊛ ‵ ftrue) ⊛ ‵ (unit .own u (w ∷ []))) ⊛ raw
-      (ensured 𝓤 H A store-starts.ended (store-starts.clauses 𝓤 H A at-mem run) (κ, tt) (x, (s, tt)) tt u)))) (id⊢ 𝓤 _) $ await t tt $ pick t (λ u.
-      split t $ move t (1 ∷ []) $ use1 W (some
-      (λ (zs : List Range × (Unit {0} × Unit {0})). ‵ (lasts store-starts.ended (κ, tt) (x, (s, tt)) zs) ⊛ raw (fact 𝓤 (zs .0 ≡ withStarts (now x) (take (s .count) (s .earliest))))))
-      (id⊢ 𝓤 _) $ pick t (λ zs.
-      split t $ move t (1 ∷ []) $ heard t (zs .0 ≡ withStarts (now x) (take (s .count) (s .earliest)))
-      (λ e. fsplit t $ fsplit t $ move t (1 ∷ []) $ feqL t (λ l. move t (2 ∷ []) $ split t $ move t (1 ∷ []) $
-      facts t unit (Is unit) (shows 𝓤 H A unit) u (w ∷ []) (λ is. move t (2 ∷ []) $ drop t $ k w (zs .0) e l is))))))

@@ -2,10 +2,10 @@
 -- is whole again.
 use Rattle.ranges.proofs.Prelude
 use Prelude.{_≡_, refl, sym, _∙_, List, [], _∷_, ℕ, _≤_, arith, lit<, ℤ, length, take, URA, fullShare, Operand, Place, Body, seq, call, named, Val, vptr, SProp, id⊢, Fml, ftrue, fsep, fat, Lft}
-use Prelude.{Share, GName, flft, flent, fauth, fobor, Heap, Calls, Loops, Env, Atoms, Memory, Routine, Fun, FmC, Given, Item, Goal, ‵, raw, _⊛_, some, later, Seq, Step, step, _$_, _∵_, !, move}
-use Prelude.{drop, use1, use2, rewrite, split, join, pick, fsplit, fjoin, feqI, feqL, await, given, learn, nothing, runs, lands, Opds, PostOf, Is, i32, usize, RefT, now, tripleOf, Contract}
-use Prelude.{Triple, Room, ShrSlice, MutSlice, sliceVal, finally, Held, row, arr-parts, shares, partAt, opens-slice, closes-slice, lends-shr-slice, lft-new, lft-end, lent-back, heard, fact}
-use Prelude.{codedHoleys, heres, peeks, shows, calls-at, ensured, lasts, TASKS, Range}
+use Prelude.{Share, GName, flft, flent, fauth, fobor, Heap, Calls, Loops, Env, Atoms, Memory, Routine, Fun, FmC, Given, Item, Goal, ‵, raw, _⊛_, some, later, Seq, Step, step, _$_, move, drop, use1}
+use Prelude.{use2, rewrite, split, join, pick, fsplit, fjoin, feqI, feqL, await, given, learn, nothing, runs, lands, Opds, PostOf, Is, i32, usize, RefT, now, tripleOf, Contract, Triple, Room}
+use Prelude.{ShrSlice, MutSlice, sliceVal, finally, Held, row, arr-parts, shares, partAt, opens-slice, closes-slice, lends-shr-slice, lft-new, lft-end, lent-back, heard, codedHoleys, heres, TASKS}
+use Prelude.{Range}
 use mathlib.Core.List.{_++_}
 use lib.ListN.{drop as drop-list, take-append-drop}
 use base.Fml.{fres}
@@ -19,6 +19,7 @@ use denote.Ref.{MutRef}
 use borrow.Rule.Array.Share.{room-take}
 use borrow.Table.Elements.{at, length-take-le, cut-app, join-app, same-len}
 use Rattle.ranges.specs.TakenApart.{TakenInto}
+use Rattle.ranges.proofs.Calls.{calls-by}
 use Rattle.ranges.proofs.range.Range as T
 use Rattle.ranges.proofs.starts.take_apart as take-apart
 use Rattle.ranges.proofs.starts.take_apart.Symbol.{name as #take-apart}
@@ -144,16 +145,14 @@ module _ {M : Type 1} {𝓤 : URA M} {H : Heap 𝓤} {A : Atoms 𝓤} {K : Type 
       nothing t $ move t (2 ∷ 0 ∷ []) $ fjoin t $ move t (4 ∷ 0 ∷ []) $ fjoin t $ move t (6 ∷ 0 ∷ []) $ fjoin t $
       nothing t $ move t (2 ∷ 0 ∷ []) $ join t $ move t (3 ∷ 0 ∷ []) $ join t $ move t (4 ∷ 0 ∷ []) $ join t $ join t $ nothing t $ move t (1 ∷ 0 ∷ []) $ join t $
       use1 W (raw (Take 𝓤 H A at-mem run .pre (to-take 𝓤 H A at-mem run κ p μ μ′ x (arrayAt l ε us) (arrayAt l′ ε′ vs)))) (id⊢ 𝓤 _) $
-      calls-at t fm (Take 𝓤 H A at-mem run) known (to-take 𝓤 H A at-mem run κ p μ μ′ x (arrayAt l ε us) (arrayAt l′ ε′ vs)) (os μ μ′ ε ε′) (λ w.
-      use1 W (later (some (λ (n : ℕ). ((‵ (flft κ p) ⊛ ‵ (flft (μ ∷ []) fullShare) ⊛ ‵ (flft (μ′ ∷ []) fullShare) ⊛ ‵ ftrue) ⊛ ‵ (usize .own n (w ∷ []))) ⊛ raw
-      (ensured 𝓤 H A take-apart.ended (take-apart.clauses 𝓤 H A at-mem run) (κ, (μ ∷ [], (μ′ ∷ [], tt))) (x, (arrayAt l ε us, (arrayAt l′ ε′ vs, tt))) tt n)))) (id⊢ 𝓤 _) $ await t tt $ pick t (λ n.
-      split t $ move t (1 ∷ []) $ use1 W (some (λ (ws : Unit {0} × (List ℤ × (List ℤ × Unit {0}))). ‵
-      (lasts take-apart.ended (κ, (μ ∷ [], (μ′ ∷ [], tt))) (x, (arrayAt l ε us, (arrayAt l′ ε′ vs, tt))) ws) ⊛ raw (fact 𝓤 (TakenInto (now x) us vs n (ws .1 .0) (ws .1 .1 .0)))))
-      (id⊢ 𝓤 _) $ pick t (λ ws. split t $ move t (1 ∷ []) $ heard t (TakenInto (now x) us vs n (ws .1 .0) (ws .1 .1 .0)) (λ e. fsplit t $ drop t $ fsplit t $ move t (1 ∷ []) $ fsplit t $
-      -- [the last value of latest; true; that of earliest; the tokens, and what the count owns; the ways back]
-      move t (3 ∷ []) $ split t $ move t (1 ∷ []) $ peeks t usize (Is usize) (shows 𝓤 H A usize) n (w ∷ []) (λ is. drop t $ split t $ move t (1 ∷ []) $ split t $ move t (1 ∷ []) $ split t $
-      move t (0 ∷ 7 ∷ 4 ∷ []) $ array-back t tt μ′ l′ ε′ (ws .1 .1 .0) (λ gv′. move t (2 ∷ 6 ∷ 5 ∷ []) $ array-back t tt μ l ε (ws .1 .0) (λ gu′.
-      move t (2 ∷ []) $ drop t $ move t (3 ∷ []) $ drop t $ move t (2 ∷ []) $ k w n (ws .1 .0) (ws .1 .1 .0) e is gu′ gv′)))))))))
+      calls-by t fm take-apart.ended (take-apart.clauses 𝓤 H A at-mem run) known (to-take 𝓤 H A at-mem run κ p μ μ′ x (arrayAt l ε us) (arrayAt l′ ε′ vs)) (os μ μ′ ε ε′) (λ w n ws is.
+      move t (3 ∷ []) $ heard t (TakenInto (now x) us vs n (ws .1 .0) (ws .1 .1 .0)) (λ e. drop t $
+      use1 W (‵ (flft κ p) ⊛ ‵ (flft (μ ∷ []) fullShare) ⊛ ‵ (flft (μ′ ∷ []) fullShare) ⊛ ‵ ftrue) (id⊢ 𝓤 _) $ split t $ move t (1 ∷ []) $ split t $ move t (1 ∷ []) $ split t $
+      -- [the token of latest; true; that of earliest; the ranges'; what is said of what was passed; the ways back]
+      move t (4 ∷ []) $ fsplit t $ drop t $ fsplit t $ move t (1 ∷ []) $ fsplit t $
+      -- [the last value of latest; true; that of earliest; the token of latest; true; that of earliest; the ranges'; the ways back]
+      move t (3 ∷ 7 ∷ 0 ∷ []) $ array-back t tt μ′ l′ ε′ (ws .1 .1 .0) (λ gv′. move t (4 ∷ 6 ∷ 2 ∷ []) $ array-back t tt μ l ε (ws .1 .0) (λ gu′.
+      move t (2 ∷ 3 ∷ []) $ drop t $ drop t $ move t (2 ∷ []) $ k w n (ws .1 .0) (ws .1 .1 .0) e is gu′ gv′))))))
 
 -- ---- ranges lent as `&mut` are opened, lent as a `&` for a lifetime of the call, come back, and are closed
 module _ {M : Type 1} {𝓤 : URA M} {H : Heap 𝓤} {A : Atoms 𝓤} {K : Type 0} {W : Given 𝓤 H A} {Γ : List (Item 𝓤)} where

@@ -124,10 +124,10 @@ module _ {M : Type 1} {𝓤 : URA M} {H : Heap 𝓤} (L : Loop 𝓤 H) where
 
 -- the place of a local
 module _ {M : Type 1} {𝓤 : URA M} {H : Heap 𝓤} {A : Atoms 𝓤} {K : Type 0} {W : Given 𝓤 H A} {Γ : List (Item 𝓤)} {E : Env 𝓤 H} where
-  within : K → {k : ℕ} {sp sp′ : Spot 𝓤 H} {st : List PlaceStep} → spotOf 𝓤 H E k ≡ sp → Walks K W Γ E sp st sp′ → Finds K W Γ E (local k st) sp′
+  pub within : K → {k : ℕ} {sp sp′ : Spot 𝓤 H} {st : List PlaceStep} → spotOf 𝓤 H E k ≡ sp → Walks K W Γ E sp st sp′ → Finds K W Γ E (local k st) sp′
   within t {k} {sp} {sp′} {st} e w = from t (subst (λ (u : Spot 𝓤 H). Walks K W Γ E u st sp′) (sym e) w)
 
-  found : K → {k : ℕ} {sp : Spot 𝓤 H} → spotOf 𝓤 H E k ≡ sp → Finds K W Γ E (local k []) sp
+  pub found : K → {k : ℕ} {sp : Spot 𝓤 H} → spotOf 𝓤 H E k ≡ sp → Finds K W Γ E (local k []) sp
   found t e = within t e (stop t)
 
 module _ {M : Type 1} (𝓤 : URA M) (H : Heap 𝓤) (A : Atoms 𝓤) (𝓣 : Tables 𝓤 H) (L : Loop 𝓤 H) where

@@ -31,23 +31,23 @@ returns c =
     }
 
 run-in-mirror-requires : tie.Need-run-in-mirror-requires
-run-in-mirror-requires c κs = passed (c .before .before .before .before) .0
+run-in-mirror-requires c κs = let e = c .before .before .before .before .before in let s = e .before .before .before .before .before in (s .args .t1 .total, long s, passed e .0)
 
 mirror-words-requires : tie.Need-mirror-words-requires
 mirror-words-requires c κs =
-    let ran = c .before .before .before .before .before .before in
-    let e = ran .before .before .before .before .before in
+    let ran = c .before .before .before .before .before .before .before in
+    let e = ran .before .before .before .before .before .before in
     let s = e .before .before .before .before .before in
     let a = s .args in
-    words-mirrorable (a .t1) (a .earliest .now) (a .latest .now) (length (a .posts .now)) (length (a .atoms .now)) (passed e .0) (long s) (ran .run-in-mirror .ensures)
+    words-mirrorable (a .t1) (a .earliest .now) (a .latest .now) (length (a .posts .now)) (length (a .atoms .now)) (passed e .0) (long s) (ran .run-in-mirror .ensures (a .t1 .total))
 
 returns-2 : tie.Need-returns-2
 returns-2 c =
-    let ran = c .before .before .before .before .before .before .before .before .before in
-    let e = ran .before .before .before .before .before in
+    let ran = c .before .before .before .before .before .before .before .before .before .before in
+    let e = ran .before .before .before .before .before .before in
     let s = e .before .before .before .before .before in
     let a = s .args in
-    let r = ran .run-in-mirror .ensures in
+    let r = ran .run-in-mirror .ensures (a .t1 .total) in
     record {
       refused = λ h. absurd (h (accepted-run (a .t1) (a .earliest .now) (a .latest .now) (a .bars-fit) (length (a .posts .now)) (length (a .atoms .now)) .1 (passed e)));
       accepted = λ z. left-mirrored (a .t1) (a .earliest .now) (a .latest .now) (length (a .posts .now)) (length (a .atoms .now)) (passed e .0) (long s) r (omega arith) (omega arith)

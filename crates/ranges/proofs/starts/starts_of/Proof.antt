@@ -2,17 +2,16 @@
 use Rattle.ranges.proofs.Prelude
 use Prelude.{refl, sym, ap, subst, List, [], _∷_, map-id, ℕ, ℤ, pos, replicate, Decided, URA, fullShare, Ty, w32, w64, tyInt, tyRef, mut, Val, hasTy, WT, spell, SProp, fat, Lft, Share, Heap, Env}
 use Prelude.{Tables, Atoms, Memory, Routine, Fun, givenOf, tables, tablesOf, fmOf, Given, ‵, _$_, _∵_, !, qed, by, move, rewrite, keep, atRet, init, look, forget, stop, from, load, lit, of-opd}
-use Prelude.{assigns, exec, addr, returns, and-then, no-more, land, agg, rep, owned, only, Is, pointee, array-typed, i32, sint-lawful, Triple, RefT, now, uint-lawful, entered, cited, TASKS}
-use Prelude.{Range, Starts}
+use Prelude.{assigns, exec, addr, returns, and-then, no-more, land, agg, rep, owned, only, Is, pointee, array-typed, i32, sint-lawful, Triple, RefT, now, uint-lawful, entered, cited, TASKS, Range}
+use Prelude.{Starts}
 use mir.Syntax.{erased}
 use denote.Struct.Laws as LL
 use Rattle.ranges.proofs.TakenApart.{taken-starts}
 use Rattle.ranges.proofs.LocalCells.{frees-all}
-use Rattle.ranges.proofs.LocalRows.{Numbers, numbers, machine, zeros}
+use Rattle.ranges.proofs.LocalRows.{Numbers, numbers, machine, zeros, copied}
 use Rattle.ranges.proofs.starts.Lending.{machS, Reads, Taken}
 use Rattle.ranges.proofs.starts.LentArrays.{Take, calls-take}
 use Rattle.ranges.proofs.starts.ReaderWalk.{slice, Begun, Shown, meets}
-use Rattle.ranges.proofs.starts.StoreLoop.{copied}
 use Rattle.ranges.proofs.starts.Starts as S
 use Rattle.ranges.proofs.starts.Starts.Laws as S′
 use Rattle.ranges.proofs.starts.take_apart.Symbol as take-apart-def

@@ -1,49 +1,33 @@
 -- `starts::store_starts` meets its contract: the walk of `StoreWalk`, where the earliest starts are stored in the first field of a range.
 use Rattle.ranges.proofs.Prelude
-use Prelude.{refl, List, [], _∷_, ℕ, ℤ, URA, w32, Lft, GName, Share, Heap, Tables, Atoms, givenOf, tables, tablesOf, Given, _$_, _∵_, !, qed, by, anyQ, init, look, stop, hop, fld, from, load, of-opd}
-use Prelude.{assigns, exec, whole, sub, look-in, store-in, Is, array-typed, i32, sint-vals, sint-lawful, tripleOf, entered, cited, TASKS, Range, Starts}
+use Prelude.{refl, List, [], _∷_, ℕ, ℤ, URA, w32, Lft, Share, Heap, Tables, Atoms, givenOf, tables, tablesOf, Given, _$_, _∵_, !, qed, by, anyQ, look, stop, hop, fld, from, load, of-opd, assigns}
+use Prelude.{exec, whole, sub, store-in, Is, i32, sint-vals, sint-lawful, tripleOf, entered, cited, RefT, Range}
 use denote.Struct.Laws as LL
-use Rattle.ranges.specs.Moves.{storedStart}
-use Rattle.ranges.specs.Ranges.{withEarliest, withStarts}
-use Rattle.ranges.proofs.StoredStarts.{starts-stored}
-use Rattle.ranges.proofs.LocalRows.{Numbers, machine}
-use Rattle.ranges.proofs.starts.Lending.{mach, machS}
+use Rattle.ranges.specs.Ranges.{withEarliest}
+use Rattle.ranges.proofs.starts.Lending.{mach}
 use Rattle.ranges.proofs.starts.StoreLoop as L
-use Rattle.ranges.proofs.starts.StoreLoop.{Field, copied}
-use Rattle.ranges.proofs.starts.StoreWalk.{Moved, meets}
+use Rattle.ranges.proofs.starts.StoreLoop.{Moved}
+use Rattle.ranges.proofs.starts.StoreWalk.{earliest-field, meets}
 use Rattle.ranges.proofs.range.Range as T
 use Rattle.ranges.proofs.range.Range.Laws as T′
 use Rattle.ranges.proofs.moves.stored_start.Symbol as stored-start-def
 use Rattle.ranges.proofs.moves.stored_start.Symbol.{name as #stored-start}
 use Rattle.ranges.proofs.moves.stored_start.Met as stored-start-thm
-use Rattle.ranges.proofs.starts.Starts as S
-use Rattle.ranges.proofs.starts.Starts.Laws as S′
 use Rattle.ranges.proofs.starts.store_starts.Key.{name as #store-starts}
 use Rattle.ranges.proofs.starts.store_starts as f
 use Rattle.ranges.proofs.starts.store_starts.Statement as stated
 use Rattle.ranges.proofs.starts.store_starts.Code as code
 
-abbrev F : Field
-F = record { to-store = λ s. s .earliest; stored = storedStart; new = withEarliest; with = withStarts; stores = starts-stored }
-
-all : (s : Starts) → Is S.the-row s (machS s ∷ []) → Is Numbers (copied (s .earliest)) (machine (copied (s .earliest)) ∷ [])
-all s gs = LL.owed S.the-type S′.the-laws s _ gs .1 .0
-
 fits-new : (d : Range) (z : ℤ) → Is T.the-row d (mach d ∷ []) → Is i32 z (sint-vals w32 z) → Is T.the-row (withEarliest d z) (mach (withEarliest d z) ∷ [])
 fits-new d z gd gz = LL.owes T.the-type T′.the-laws (withEarliest d z) (gz, LL.owed T.the-type T′.the-laws d _ gd .1)
 
-module _ {M : Type 1} (𝓤 : URA M) (H : Heap 𝓤) (A : Atoms 𝓤) (W : Given 𝓤 H A) (𝓣 : Tables 𝓤 H) (κ : Lft) (q : Share) (b o : ℕ) (γ : GName) (ys : List Range) (s : Starts) (l : ℕ → ℕ) where
-  takes : L.Takes 𝓤 H A W F κ q b o γ ys s l 𝓣 #stored-start 1 0
-  takes is P next =
-      qed W (L.Counted 𝓤 H A W F κ q b o γ ys s l) ∵ exec ! (𝓣 .C) (𝓣 .Λ) (L.En 𝓤 H A W F κ q b o γ ys s l) (L.copying #stored-start 1 0) (anyQ P) $
-      assigns ! (of-opd ! (load ! (from ! (fld ! refl (stop !))) (look-in ! 18 (sub ! 1 refl (whole !))))) (from ! (stop !))
-      (init ! 4 refl (array-typed i32 (sint-lawful 𝓤 H A W w32 .typed) TASKS (copied (s .earliest)) (machine (copied (s .earliest)) ∷ []) is .0)) $ by ! next
-
-  puts : L.Puts 𝓤 H A W F κ q b o γ ys s l 𝓣 0
+module _ {M : Type 1} (𝓤 : URA M) (H : Heap 𝓤) (A : Atoms 𝓤) (W : Given 𝓤 H A) (𝓣 : Tables 𝓤 H) (κ κ₁ : Lft) (q q₁ : Share) (x : RefT (List Range)) (x₁ : RefT (List ℤ)) (l : ℕ → ℕ) where
+  puts : L.Puts 𝓤 H A W earliest-field κ κ₁ q q₁ x x₁ l 𝓣 0
   puts i is P next =
-      let z = L.moved 𝓤 H A W F κ q b o γ ys s i in
-      qed W (L.Out-of 𝓤 H A W F κ q b o γ ys s l i (L.old 𝓤 H A W F κ q b o γ ys s i)) ∵ exec ! (𝓣 .C) (𝓣 .Λ) (L.En 𝓤 H A W F κ q b o γ ys s l) (L.stores 0) (anyQ P) $
-      assigns ! (of-opd ! (load ! (from ! (stop !)) (look ! 5 refl))) (from ! (hop ! (look ! 14 refl) (fld ! refl (stop !))))
+      let z = L.moved 𝓤 H A W earliest-field κ κ₁ q q₁ x x₁ i in
+      qed W (L.Out-of 𝓤 H A W earliest-field κ κ₁ q q₁ x x₁ l i (L.old 𝓤 H A W earliest-field κ κ₁ q q₁ x x₁ i)) ∵
+      exec ! (𝓣 .C) (𝓣 .Λ) (L.En 𝓤 H A W earliest-field κ κ₁ q q₁ x x₁ l) (L.stores 0) (anyQ P) $
+      assigns ! (of-opd ! (load ! (from ! (stop !)) (look ! 6 refl))) (from ! (hop ! (look ! 14 refl) (fld ! refl (stop !))))
       (store-in ! 0 (sub ! 0 refl (whole !)) (sint-lawful 𝓤 H A W w32 .typed z (sint-vals w32 z) is .0)) $ by ! next
 
 pub store-starts-spec : {M : Type 1} → stated.statement M
@@ -53,5 +37,5 @@ store-starts-spec 𝓤 H 𝓜 𝓖 𝓡 =
     let 𝓣 = tablesOf 𝓤 H 𝓜 (tables 𝓤 H 𝓜 𝓡 code.env) in
     entered 𝓤 H (tripleOf 𝓤 H (𝓖 .A) f.signature (f.spec 𝓤 H (𝓖 .A) (𝓜 .mem) (𝓡 .run)))
     (tables 𝓤 H 𝓜 𝓡 code.env .C) (tables 𝓤 H 𝓜 𝓡 code.env .Λ) #store-starts code.function (code.unfolded 𝓤 H 𝓜 𝓡)
-    (meets 𝓤 H (𝓖 .A) W F 𝓣 #stored-start 1 0 (takes 𝓤 H (𝓖 .A) W 𝓣) (puts 𝓤 H (𝓖 .A) W 𝓣) fits-new all
-    (cited 𝓤 H (Moved 𝓤 F H (𝓖 .A)) 𝓜 𝓡 code.env #stored-start stored-start-def.routine code.calls-ranges·moves·stored-start (stored-start-thm.met 𝓤 H 𝓜 𝓖 𝓡)))
+    (meets 𝓤 H (𝓖 .A) W earliest-field 𝓣 #stored-start 0 (puts 𝓤 H (𝓖 .A) W 𝓣) fits-new
+    (cited 𝓤 H (Moved 𝓤 earliest-field H (𝓖 .A)) 𝓜 𝓡 code.env #stored-start stored-start-def.routine code.calls-ranges·moves·stored-start (stored-start-thm.met 𝓤 H 𝓜 𝓖 𝓡)))

@@ -1,10 +1,9 @@
 -- A call in a walk, by its contract: what it returns is owned, and beside that there are the tokens, what is said of what was lent for good, and what the call ensures.
-use Rattle.disjunctive.proofs.Walk.{List, [], _∷_, URA, Name, Operand, Place, Body, seq, call, Val, id⊢, Heap, Calls, Loops, Env, Atoms, FmC, Given, Item, ‵, raw, _⊛_, later, _$_, move, use1}
-use Rattle.disjunctive.proofs.Walk.{split, pick, await, Post, runs, lands, Seq, Opds, Is, shows, peeks, calls-at, Ended, Clauses, lasts, tripleOf, Contract, Triple}
-use types.Kit.{some}
-use denote.Signature.{typeAt}
+use Rattle.ranges.proofs.Prelude
+use Prelude.{List, [], _∷_, URA, Name, Operand, Place, Body, seq, call, Val, id⊢, Heap, Calls, Loops, Env, Atoms, FmC, Given, Item, ‵, raw, _⊛_, some, later, _$_, move, use1, typeAt, split, pick}
+use Prelude.{await, PostOf as Post, runs, lands, Seq, Opds, Is, shows, peeks, calls-at, Ended, Clauses, closing, lasts, tripleOf, Contract, Triple}
 use denote.Triple.Bound.{passed}
-use denote.Triple.Clauses.{Lasts, atExit, closing}
+use denote.Triple.Clauses.{Lasts, atExit}
 use denote.Triple.Entry.{Res, alive}
 
 abbrev pub ContractOf : {M : Type 1} (𝓤 : URA M) (H : Heap 𝓤) (A : Atoms 𝓤) (T : Ended) → Clauses 𝓤 T → Contract 𝓤
