@@ -304,8 +304,8 @@ fn overloads(nodes: &[u32; TREEWORDS], last_ect_bar: u32, lct: u32) -> bool
     ect.exceeds(lct)
 }
 
-// How many turns of the next level are known without a search: one where the level's task j reaches the last known ect_bar alone. Once j is gray the search would
-// find it, and no set of white tasks completes after j starts, so j leaves Lambda with no post.
+// How many turns of the next level are known without a search: one where the level's task j reaches the last known ect_bar alone. Once j is gray the search
+// would find it, and no set of white tasks completes after j starts, so j leaves Lambda with no post.
 fn known_turns(
     est: &[u32; TASKS],
     durations: &[u32; TASKS],

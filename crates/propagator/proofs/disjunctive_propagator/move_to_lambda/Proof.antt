@@ -43,7 +43,8 @@ returns-2 : tie.Need-returns-2
 returns-2 c = λ m.
     let lay = c .before .before .before in
     let at = read-laid lay in
-    let tree = moved m gray (at .leaf-of .ensures) (c .rebuild .ensures (laid m gray (at .leaf-of .ensures) (lay .lay-in-lambda .ensures (shown-leaves m) (placed m (at .leaf-of .ensures) refl refl)))) in
+    let held = laid m gray (at .leaf-of .ensures) (lay .lay-in-lambda .ensures (shown-leaves m) (placed m (at .leaf-of .ensures) refl refl)) in
+    let tree = moved m gray (at .leaf-of .ensures) (c .rebuild .ensures held) in
     (tree-leaves (m .limited) tree, λ _. tree)
 
 returns-3 : tie.Need-returns-3
