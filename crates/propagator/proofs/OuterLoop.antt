@@ -392,7 +392,8 @@ module _ {size : TreeSize} {first : ℕ} {past : Bool} {words : List ℕ} {es po
               })
 
           -- or a post emptied a range
-          pub one-emptied : (words‴ : List ℕ) {es″ posts″ atoms″ : List ℤ} {w″ : Written} {u : code.Turn} {r : Finished} → u ≡ turn.Emptied w″ → AllConsidered goes-on (n - taken) u words‴ es″ posts″ atoms″
+          pub one-emptied : (words‴ : List ℕ) {es″ posts″ atoms″ : List ℤ} {w″ : Written} {u : code.Turn} {r : Finished} → u ≡ turn.Emptied w″
+              → AllConsidered goes-on (n - taken) u words‴ es″ posts″ atoms″
               → (r .outcome ≡ outcome.Emptied (w″ .posts)) × (r .changes ≡ w″ .changes) → EdgeFound J estOrder lctOrder posts atoms (r .outcome) (r .changes) es″ posts″ atoms″
           one-emptied words‴ {es″} {posts″} {atoms″} {w″} is all f =
               let (st′, a, z) = rw is at all in

@@ -12,8 +12,8 @@ use Rattle.trees.specs.Ects.{exceeds}
 use Rattle.trees.specs.declared.complete_tree.TreeSize.{TreeSize}
 use Rattle.propagator.specs.declared.disjunctive_propagator.Written.{Written}
 use Rattle.propagator.specs.EdgeFinding.{EdgeFindable}
-use Rattle.propagator.proofs.OuterLoop.{Level, tested, shown, ect, sorted-task-small, any, first-level, all-done, over-asked, size-fits, few-changes, overloads, reachable, moves, passed-over, goes-on}
-use Rattle.propagator.proofs.OuterLoop.{one-more, one-emptied}
+use Rattle.propagator.proofs.OuterLoop.{Level, tested, shown, ect, sorted-task-small, any, first-level, all-done, over-asked, size-fits, few-changes, overloads}
+use Rattle.propagator.proofs.OuterLoop.{reachable, moves, passed-over, goes-on, one-more, one-emptied}
 use Rattle.propagator.proofs.disjunctive_propagator.edge_finding.Statement.{statement}
 use Rattle.propagator.proofs.disjunctive_propagator.edge_finding.Tie as tie
 
@@ -151,8 +151,8 @@ consider-all-requires c κs =
     let need = c .before .before .before .before in
     let move = need .before .before in
     let v = level-of move .before .loop .inv in
-    goes-on (v .findable) (v .level (v .findable)) (more (level-of move)) (quiet move (v .findable)) (move .before .before .known-turns .ensures .0) (move .leave-theta .ensures) (need .before .counted .ensures)
-    (joins need) (ltb-true _ _ (need .if2 .taken))
+    goes-on (v .findable) (v .level (v .findable)) (more (level-of move)) (quiet move (v .findable)) (move .before .before .known-turns .ensures .0) (move .leave-theta .ensures)
+    (need .before .counted .ensures) (joins need) (ltb-true _ _ (need .if2 .taken))
 
 loop-less : tie.Need-loop-less Inv-loop μ-loop
 loop-less c = omega (arith, more (level-of (needing (considering (c .before .before)) .before .before)))
@@ -167,8 +167,8 @@ loop-again c =
     record {
       findable = v .findable;
       level = λ s.
-          let g = goes-on s (v .level s) (more (level-of move)) (quiet move s) (move .before .before .known-turns .ensures .0) (move .leave-theta .ensures) (need .before .counted .ensures) (joins need)
-          (ltb-true _ _ (need .if2 .taken)) in
+          let g = goes-on s (v .level s) (more (level-of move)) (quiet move s) (move .before .before .known-turns .ensures .0) (move .leave-theta .ensures)
+          (need .before .counted .ensures) (joins need) (ltb-true _ _ (need .if2 .taken)) in
           one-more s (v .level s) (more (level-of move)) (quiet move s) (move .before .before .known-turns .ensures .0) (move .leave-theta .ensures) (need .before .counted .ensures) (joins need)
           (ltb-true _ _ (need .if2 .taken)) (told .before .x .given .1) (considered .consider-all .ensures g) (c .ect-bar-moment .ensures);
       count = v .count;
