@@ -7,7 +7,7 @@ use mathlib.Core.List.{List}
 use mathlib.Core.Option.{Option, some, none}
 use Prim.Native.Nat.{ℕ, suc, _+_, _≤_, _<_, min}
 use native.Mathlib.Omega.{arith}
-use native.Mathlib.Decide.{decLe, ℕ-discrete}
+use native.Mathlib.Decide.{ℕ-discrete}
 use lib.ListN.{getD, set}
 use borrow.Author.Tests.{ne-eqb}
 use Rattle.integers.specs.Orders.{index}
@@ -17,7 +17,7 @@ use Rattle.scheduling.specs.Moments.{ByEarliest, ByCompletion}
 use Rattle.scheduling.proofs.Sets.{_less_, less-in, less-self, with-in, with-new, with-old}
 use Rattle.scheduling.proofs.Processing.{processing-with, processing-less}
 use Rattle.scheduling.proofs.LargerSets.{part-mono}
-use Rattle.scheduling.proofs.Exists.{ect-some}
+use Rattle.scheduling.proofs.Exists.{est-some, ect-some}
 use Rattle.scheduling.proofs.Scan.{alone, upto, and-in}
 use Rattle.trees.specs.Ects.{exceeds, raisedTo}
 use Rattle.trees.specs.Leaves.{Leaf, gray, ect, ect-bar, responsible}
@@ -37,36 +37,23 @@ pub record IsFirst (J : Tasks natural) (estOrder : List ℕ) (ls : List Leaf) (j
   pub found : responsible J estOrder ls ≡ some (index estOrder j)
   pub not-raised : exceeds (ect J estOrder ls) (J .earliest j) ≡ false
 
-module _ (J : Tasks natural) (ok : Proper J) where
-  -- a part with one task more
-  with-part : (S : TaskSet) (j : ℕ) → Outside J S j → (v : ℕ) (f : EstPlusP J S v) → EstPlusP J (S with j) (min (J .earliest j) (f .start) + processing J (f .part) + J .duration j)
-  with-part S j out v f = record {
-    part = f .part with j;
-    within = λ k h. elim (with-in (f .part) j k (h .mem)) [ inl z ↦ rw z (with-new S j) | inr y ↦ with-old S j k (f .within k (record { small = h .small; mem = y })) ];
-    start = min (J .earliest j) (f .start);
-    est = record { holds = who; bounds = least };
-    sum = omega (arith, processing-with J (f .part) j not-in);
-  }
-    where
-      not-in : Outside J (f .part) j
-      not-in = record { small = out .small; mem = elim (bool (f .part j)) [ inl y ↦ clash (f .within j (record { small = out .small; mem = y })) (out .mem) | inr y ↦ y ] }
+-- a part with one task more, which starts as early as the part or the task
+with-part : (J : Tasks natural) (S : TaskSet) (j : ℕ) → Outside J S j → (v : ℕ) (f : EstPlusP J S v)
+    → (a : ℕ) × EstPlusP J (S with j) (a + processing J (f .part) + J .duration j) × (min (J .earliest j) (f .start) ≤ a)
+with-part J S j out v f =
+    let (a, e) = est-some J (f .part with j) (j, record { small = out .small; mem = with-new (f .part) j }) in
+    let (k, km, is) = e .holds in (
+      a,
+      record { part = f .part with j; within = within; start = a; est = e; sum = omega (arith, processing-with J (f .part) j not-in) },
+      elim (with-in (f .part) j k (km .mem))
+          [ inl z ↦ omega (arith, is, ap (J .earliest) z) | inr y ↦ omega (arith, f .est .bounds a (k, record { small = km .small; mem = y }, is)) ],
+    )
+  where
+    within : Subset J (f .part with j) (S with j)
+    within k h = elim (with-in (f .part) j k (h .mem)) [ inl z ↦ rw z (with-new S j) | inr y ↦ with-old S j k (f .within k (record { small = h .small; mem = y })) ]
 
-      who : (k : ℕ) × In J (f .part with j) k × (J .earliest k ≡ min (J .earliest j) (f .start))
-      who = let (k, km, is) = f .est .holds in
-          elim (decLe (J .earliest j) (f .start)) [
-            | yes q ↦ (j, record { small = out .small; mem = with-new (f .part) j }, omega arith)
-            | no q ↦ (k, record { small = km .small; mem = with-old (f .part) j k (km .mem) }, omega (arith, is))
-          ]
-
-      least : (w : ℕ) → (k : ℕ) × In J (f .part with j) k × (J .earliest k ≡ w) → min (J .earliest j) (f .start) ≤ w
-      least w h = elim (with-in (f .part) j (h .0) (h .1 .mem))
-          [ inl z ↦ omega (arith, h .2, ap (J .earliest) z) | inr y ↦ omega (arith, f .est .bounds w (h .0, record { small = h .1 .small; mem = y }, h .2)) ]
-
-  -- where no part with j is later than j alone, no part without it is later than the start of j
-  by-start : (S : TaskSet) (j : ℕ) → Outside J S j → ((w : ℕ) → EstPlusP J (S with j) w → w ≤ J .earliest j + J .duration j) → (v : ℕ) → EstPlusP J S v → v ≤ J .earliest j
-  by-start S j out most v f =
-      let (k, km, _) = f .est .holds in
-      omega (arith, f .sum, most (min (J .earliest j) (f .start) + processing J (f .part) + J .duration j) (with-part S j out v f), processing-less J (f .part) k km, ok .lasts k (km .small))
+    not-in : Outside J (f .part) j
+    not-in = record { small = out .small; mem = elim (bool (f .part j)) [ inl y ↦ clash (f .within j (record { small = out .small; mem = y })) (out .mem) | inr y ↦ y ] }
 
 module _ (J : Tasks natural) (ok : Proper J) (estOrder : List ℕ) (rk : ByEarliest J (λ x. getD estOrder x 0) (λ k. index estOrder k)) (ls : List Leaf) (Ω₀ Λ₀ : TaskSet)
     (before : tree.Represents J ok estOrder rk ls Ω₀ Λ₀) (j : ℕ) (white : In J Ω₀ j) (last : ℕ) (most : raisedTo 0 (ect-bar J estOrder ls) ≤ last)
@@ -93,32 +80,35 @@ module _ (J : Tasks natural) (ok : Proper J) (estOrder : List ℕ) (rk : ByEarli
   gray-j : In J Λ j
   gray-j = record { small = white .small; mem = with-new Λ₀ j }
 
-  out-j : Outside J Ω j
-  out-j = record { small = white .small; mem = less-self Ω₀ j }
-
-  was-gray : (k : ℕ) → In J Λ k → (k ≡ j → ⊥) → In J Λ₀ k
-  was-gray k m ne = record { small = m .small; mem = elim (with-in Λ₀ j k (m .mem)) [ inl z ↦ absurd (ne z) | inr y ↦ y ] }
-
-  -- no part of Theta before the move is later, also with a task of Lambda
-  old : (S : TaskSet) → NonEmpty J S → ((v : ℕ) → Ect J S v → tree.AtMostOne J ok estOrder rk ls Ω₀ Λ₀ before v) → (w : ℕ) → EstPlusP J S w → w ≤ J .earliest j + J .duration j
-  old S ne one w f =
-      let (v, e) = ect-some J S ne in
+  -- Where S with j is inside a set whose ect counts for the ect_bar of before, no part of S completes after j starts: with j it would be later than j alone.
+  early : (S S₀ : TaskSet) → S j ≡ false → Subset J (S with j) S₀ → ((v : ℕ) → Ect J S₀ v → tree.AtMostOne J ok estOrder rk ls Ω₀ Λ₀ before v) → (v : ℕ) → EstPlusP J S v
+      → v ≤ J .earliest j
+  early S S₀ out inside one v f =
+      let (a, g, from) = with-part J S j (record { small = white .small; mem = out }) v f in
+      let (w, e) = ect-some J S₀ (j, record { small = white .small; mem = inside j (record { small = white .small; mem = with-new S j }) }) in
       let (u, at, largest) = tree.bar-some J ok estOrder rk ls Ω₀ Λ₀ before (inl (j, white)) in
-      omega (arith, is, most, raised-bound 0 (ect-bar J estOrder ls) u at, largest .bounds v (one v e), e .bounds w f)
+      let (k, km, _) = f .est .holds in
+      omega (
+        arith,
+        is,
+        most,
+        f .sum,
+        raised-bound 0 (ect-bar J estOrder ls) u at,
+        largest .bounds w (one w e),
+        from,
+        e .bounds (a + processing J (f .part) + J .duration j) (part-mono J (S with j) S₀ (a + processing J (f .part) + J .duration j) inside g),
+        processing-less J (f .part) k km,
+        ok .lasts k (km .small),
+      )
 
   theta-early : (v : ℕ) → EstPlusP J Ω v → v ≤ J .earliest j
-  theta-early = by-start J ok Ω j out-j (λ w f.
-      old Ω₀ (j, white) (λ v e. inl e) w (part-mono J (Ω with j) Ω₀ w (λ k h. elim (with-in Ω j k (h .mem)) [ inl z ↦ rw z (white .mem) | inr y ↦ less-in Ω₀ j k y .0 ]) f))
+  theta-early = early Ω Ω₀ (less-self Ω₀ j) (λ k h. elim (with-in Ω j k (h .mem)) [ inl z ↦ rw z (white .mem) | inr y ↦ less-in Ω₀ j k y .0 ]) (λ v e. inl e)
 
   others-early : (i : ℕ) → In J Λ i → (i ≡ j → ⊥) → (v : ℕ) → EstPlusP J (Ω with i) v → v ≤ J .earliest j
-  others-early i m ne = by-start J ok (Ω with i) j out (λ w f.
-      old (Ω₀ with i) (j, record { small = white .small; mem = with-old Ω₀ i j (white .mem) }) (λ v e. inr (i, was-gray i m ne, e)) w (part-mono J (Ω with i with j) (Ω₀ with i) w inside f))
+  others-early i m ne = early (Ω with i) (Ω₀ with i) (rw (ne-eqb j i (λ z. ne (sym z))) (less-self Ω₀ j)) inside (λ v e. inr (i, was-gray, e))
     where
-      out : Outside J (Ω with i) j
-      out = record {
-        small = white .small;
-        mem = elim (bool ((Ω with i) j)) [ inl y ↦ elim (with-in Ω i j y) [ inl z ↦ absurd (ne (sym z)) | inr u ↦ clash u (out-j .mem) ] | inr y ↦ y ];
-      }
+      was-gray : In J Λ₀ i
+      was-gray = record { small = m .small; mem = elim (with-in Λ₀ j i (m .mem)) [ inl z ↦ absurd (ne z) | inr y ↦ y ] }
 
       inside : Subset J (Ω with i with j) (Ω₀ with i)
       inside k h = elim (with-in (Ω with i) j k (h .mem)) [
