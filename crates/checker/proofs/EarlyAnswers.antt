@@ -11,7 +11,7 @@ use lib.ListN.{getD, set}
 use lib.Seq.{getD-set-other}
 use borrow.Author.Tests.{eq-eqb, ne-eqb, lt-ltb, le-ltb}
 use Rattle.integers.proofs.Bools.{cond-most}
-use Rattle.scheduling.specs.Scheduling.{natural, Tasks, TaskSet, total, NonEmpty, Est, processing}
+use Rattle.scheduling.specs.Scheduling.{natural, Tasks, TaskSet, total, processing}
 use Rattle.scheduling.specs.Ects.{ectOf}
 use Rattle.scheduling.proofs.Sets.{total-part, total-mono}
 use Rattle.scheduling.proofs.Processing.{processing-is}
@@ -42,9 +42,7 @@ module _ {J : Tasks natural} {Ω : TaskSet} {n : ℕ} {chosen : List Bool} {est 
 
   lb-most : v .some ≡ true → v .«lb_interval» ≤ LATEST
   lb-most y =
-      let ne : NonEmpty J Ω = any-some J Ω (sym some-is ∙ y) in
-      let l : Est J Ω (lowest J Ω (J .count)) = lowest-is J Ω (λ k q. omega (arith, h .early k (omega (arith, h .count)))) ne in
-      let (k, m, e) = l .holds in
+      let (k, m, e) = lowest-is J Ω (λ k q. omega (arith, h .early k (omega (arith, h .count)))) (any-some J Ω (sym some-is ∙ y)) .holds in
       omega (arith, lb-is, e, h .early k (omega (arith, m .small, h .count)))
 
   -- without a consequent

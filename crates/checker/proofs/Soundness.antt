@@ -2,7 +2,7 @@
 use mathlib.Core.Path.{_≡_, refl, sym, ap, subst, _∙_}
 use mathlib.Core.Bool.{Bool, true, false, cond, _&&_}
 use mathlib.Core.List.{List}
-use mathlib.Core.Logic.{_⊎_, inl, inr, _↔_}
+use mathlib.Core.Logic.{inl, inr, _↔_}
 use mathlib.Core.Option.{Option, some, none}
 use Prim.Native.Nat.{ℕ, zero, suc, _+_, _*_, _≤_, _<_}
 use native.Mathlib.Omega.{arith}
@@ -18,14 +18,13 @@ use Rattle.integers.proofs.Bools.{bool, and-true, and-yes}
 use Rattle.integers.proofs.FilledLists.{filled-at}
 use Rattle.integers.proofs.Ints.{ints, up, dn}
 use Rattle.integers.proofs.MomentSums.{above-show, at-moment}
-use Rattle.scheduling.specs.Scheduling.{whole, Tasks, Atom, Every, Admits, given, PassesWith, PassesFormula, Contradicts}
+use Rattle.scheduling.specs.Scheduling.{whole, Tasks, Atom, Every, Admits, given, PassesFormula, Contradicts}
 use Rattle.scheduling.specs.MirroredTime.{mirrorStart, mirrorAtoms}
 use Rattle.scheduling.proofs.PassedChecks.{passed-sound}
 use Rattle.scheduling.proofs.Sets.{total-part}
 use Rattle.trees.specs.NodeBounds.{LATEST}
 use Rattle.integers.specs.WholeNumbers.{Within}
 use Rattle.checking.specs.Atoms.{atomsOf, consequentOf, rightLists}
-use Rattle.checking.specs.declared.variable_state.VariableState.{VariableState}
 use Rattle.checking.specs.declared.variable_state.Application.{Application}
 use Rattle.checking.specs.declared.variable_state.Application.the-variants as application
 use Rattle.checking.specs.States.{prepared}
@@ -55,9 +54,6 @@ pub near-latest : (u : ℤ) → Within (VALUE + 1 + HOLES) u → moment zeroAt u
 unfolding up dn
 near-latest u w = omega (ints, w .high, w .low, at-moment zeroAt u (near-above u w))
 
-near-fits : (u : ℤ) → Within (VALUE + 1 + HOLES) u → moment zeroAt u ≤ 4294967295
-near-fits u w = omega (arith, near-latest u w)
-
 -- Where the atoms are consistent, the bounds that the check reads are those that they leave.
 pub reads : (ds ps cs : List ℤ) → length ds ≤ TASKS → prepared ps cs .answer ≡ application.Consistent
     → Reads (length ds) (given (atomsOf ps) (consequentOf cs)) (lowerIn (prepared ps cs .state)) (upperIn (prepared ps cs .state))
@@ -67,7 +63,7 @@ reads ds ps cs few ok = record {
   greatest = λ k q. upper-is ps cs k (omega arith) ok;
   no-greatest = λ k q. upper-none-is ps cs k (omega arith) ok;
   above = λ k q u e. near-above u (lower-near ps cs k (omega arith) u e);
-  fits = λ k q u e. near-fits u (lower-near ps cs k (omega arith) u e);
+  fits = λ k q u e. omega (arith, near-latest u (lower-near ps cs k (omega arith) u e));
 }
 
 -- ---- answers that are not Passed

@@ -2,7 +2,7 @@
 use mathlib.Core.Path.{_≡_, refl, sym, ap, _∙_, subst}
 use mathlib.Core.Logic.{⊎-elim}
 use mathlib.Core.Bool.{true, false, Bool, cond}
-use mathlib.Core.List.{List, []}
+use mathlib.Core.List.{[]}
 use Prim.Native.Nat.{ℕ, zero, suc, _+_, _-_, _<_, max}
 use native.Mathlib.Omega.{arith}
 use borrow.Author.Tests.{le-leb, lt-leb, ne-eqb}
@@ -22,7 +22,7 @@ use Rattle.checking.specs.declared.domain.Domain.{Domain}
 use Rattle.checking.specs.declared.bound_words.BoundWords.{BoundWords}
 use Rattle.checking.specs.declared.variable_state.Bound.the-variants.{At}
 use Rattle.checking.specs.Bounds.{finite}
-use Rattle.checking.specs.Domains.{leExt, ltExt, holesOf, domainOf, consistent, Tight, tightenedLower, tightenedUpper, applied}
+use Rattle.checking.specs.Domains.{leExt, ltExt, domainOf, consistent, Tight, tightenedLower, tightenedUpper, applied}
 use Rattle.checking.specs.BoundWords.{lowerWord, upperWord, wordsOf, appliedWords, consistentWords, taskBoundsOfWords, HoleFree}
 use Rattle.checking.specs.TaskBounds.{twoBounds, boundsBetween, taskBounds}
 use Rattle.checking.proofs.BoundLimits.{same-int}
@@ -48,22 +48,16 @@ twice z i = omega (arith, i .below)
 -- Bounds that an atom moves ----------------------------------------------------------------------------------------------------
 
 module _ (d : Domain) (t : Tight d) (free : HoleFree d) (v : ℤ) where
-  raised-is : domainOf (Int (firstFrom v (holesOf d))) (d .«upper_bound») (above (firstFrom v (holesOf d)) (holesOf d)) ≡ domainOf (Int v) (d .«upper_bound») []
-  unfolding firstFrom kept
-  raised-is = ap (λ (hs : List ℤ). domainOf (Int (firstFrom v hs)) (d .«upper_bound») (above (firstFrom v hs) hs)) (free .none)
-
-  lowered-is : domainOf (d .«lower_bound») (Int (lastUpTo v (holesOf d))) (below (lastUpTo v (holesOf d)) (holesOf d)) ≡ domainOf (d .«lower_bound») (Int v) []
-  unfolding lastUpTo kept
-  lowered-is = ap (λ (hs : List ℤ). domainOf (d .«lower_bound») (Int (lastUpTo v hs)) (below (lastUpTo v hs) hs)) (free .none)
-
   -- the bound is there already, or it is v
   raised : (P : Domain → Type 0) → (leExt (Int v) (d .«lower_bound») ≡ true → P d) → (leExt (Int v) (d .«lower_bound») ≡ false → P (domainOf (Int v) (d .«upper_bound») []))
       → P (tightenedLower d v)
-  raised P f g = lower-case d v t P f (λ n. subst P (sym raised-is) (g n))
+  unfolding firstFrom kept
+  raised P f g = lower-case d v t P f (λ n. rw (free .none) (g n))
 
   lowered : (P : Domain → Type 0) → (leExt (d .«upper_bound») (Int v) ≡ true → P d) → (leExt (d .«upper_bound») (Int v) ≡ false → P (domainOf (d .«lower_bound») (Int v) []))
       → P (tightenedUpper d v)
-  lowered P f g = upper-case d v t P f (λ n. subst P (sym lowered-is) (g n))
+  unfolding lastUpTo kept
+  lowered P f g = upper-case d v t P f (λ n. rw (free .none) (g n))
 
   module _ (near : Within (VALUE + 1) v) where
     raised-free : HoleFree (tightenedLower d v)

@@ -1,4 +1,5 @@
 -- The two tests give an accepted state and an atom within the limits, which `apply_atom` asks for; `apply-promise` turns its equation into what it means.
+use Rattle.checking.proofs.AcceptedStates.{tested-state}
 use mathlib.Core.Path.{_≡_, sym, ap, _∙_, subst}
 use mathlib.Core.Bool.{true}
 use Prim.Native.Nat.{_+_}
@@ -11,16 +12,13 @@ use Rattle.integers.proofs.WholeNumbers.{wider}
 use Rattle.checking.specs.Atoms.{atomOf, atomFrom, rightAtom}
 use Rattle.checking.proofs.Atoms.{right-atom}
 use Rattle.checking.proofs.ReadWords.{read-right, read-atom, made-known}
-use Rattle.checking.specs.States.{AcceptedState, accepted, stepped, appliedTo}
+use Rattle.checking.specs.States.{accepted, stepped, appliedTo}
 use Rattle.checking.proofs.Promises.{apply-promise}
 use borrow.Author.Needs.{needs}
 use Rattle.checking.proofs.variable_state.VariableState.apply.Statement.{statement}
 use Rattle.checking.proofs.variable_state.VariableState.apply.Tie as tie
 
 -- what the tests say: the state, and the words
-proper : (c : tie.After-is-accepted) → accepted (c .before .args .self .domains) ≡ true → AcceptedState (c .before .args .self)
-proper c y = c .is-accepted .ensures .1 (c .is-accepted .ensures .0 ∙ y)
-
 state-right : (c : tie.Else1) → accepted (c .before .before .args .self .domains) ≡ true
 state-right c = sym (c .before .is-accepted .ensures .0) ∙ not-false _ (c .if1 .left)
 
@@ -37,25 +35,26 @@ made c = let f = c .before .before .before .before .before .fits in c .new .ensu
 returns : tie.Need-returns
 unfolding appliedTo
 returns c = let a = c .before .before .args in
-    apply-promise (a .self) (a .variable) (a .kind) (a .value) (proper (c .before)) _ (rw (sym (c .before .is-accepted .ensures .0) ∙ not-true _ (c .if1 .taken)))
+    apply-promise (a .self) (a .variable) (a .kind) (a .value) (tested-state (c .before .is-accepted .ensures)) _ (rw (sym (c .before .is-accepted .ensures .0) ∙ not-true _ (c .if1 .taken)))
 
 returns-2 : tie.Need-returns-2
 unfolding appliedTo
 returns-2 c = let a = c .before .before .before .before .args in
-    apply-promise (a .self) (a .variable) (a .kind) (a .value) (proper (c .before .before .before)) _ (rw (state-right (c .before .before), tested (c .before) ∙ not-true _ (c .if2 .taken)))
+    apply-promise (a .self) (a .variable) (a .kind) (a .value) (tested-state (c .before .before .before .is-accepted .ensures)) _
+    (rw (state-right (c .before .before), tested (c .before) ∙ not-true _ (c .if2 .taken)))
 
 apply-atom-requires : tie.Need-apply-atom-requires
 apply-atom-requires c κs =
     let right = atom-right (c .before) in
     let near = subst (Within (VALUE + 1)) (sym (ap (λ (a : Atom). a .value) (made c))) (wider VALUE (VALUE + 1) _ (omega arith) (right-atom _ _ _ right .value)) in
-    (proper (c .before .before .before .before) (state-right (c .before .before .before)), (made-known _ _ _ (c .new .result) (made c) right, near))
+    (tested-state (c .before .before .before .before .is-accepted .ensures) (state-right (c .before .before .before)), (made-known _ _ _ (c .new .result) (made c) right, near))
 
 returns-3 : tie.Need-returns-3
 unfolding appliedTo
 returns-3 c =
     let right = c .before .before .before .before in
     let a = right .before .before .args in
-    apply-promise (a .self) (a .variable) (a .kind) (a .value) (proper (right .before)) _
+    apply-promise (a .self) (a .variable) (a .kind) (a .value) (tested-state (right .before .is-accepted .ensures)) _
     (rw (state-right right, atom-right (c .before .before)) (c .apply-atom .ensures ∙ ap (stepped (a .self)) (made (c .before))))
 
 pub apply-spec : {M : Type 1} → statement M

@@ -1,10 +1,7 @@
 -- The domain's own answer decides: it is stored, or the state is returned unchanged.
-use mathlib.Core.Path.{_≡_, sym, ap, _∙_, subst}
-use Prim.Native.Nat.{_+_}
+use mathlib.Core.Path.{_≡_, sym, ap, _∙_}
 use mir.Syntax.{w32}
-use Rattle.integers.specs.Limits.{VALUE}
 use Rattle.integers.proofs.Ints.{back-of}
-use Rattle.integers.specs.WholeNumbers.{Within}
 use Rattle.checking.specs.Atoms.{kindOf, atomOf}
 use Rattle.checking.specs.Domains.{reduced}
 use Rattle.checking.specs.States.{domainAt}
@@ -15,10 +12,8 @@ use Rattle.checking.proofs.variable_state.VariableState.apply_atom.Tie 
 
 apply-requires : tie.Need-apply-requires
 apply-requires c κs =
-    let s = c .before .before in (
-      s .pre .0 .each (s .args .atom .identifier) (s .pre .1 .0) .tight,
-      subst (Within (VALUE + 1)) (sym (back-of w32 (s .args .atom .value) (c .before .struct-told .given .1 .1 .0 .1))) (s .pre .1 .1),
-    )
+    let s = c .before .before in
+    (s .pre .0 .each (s .args .atom .identifier) (s .pre .1 .0) .tight, rw (back-of w32 (s .args .atom .value) (c .before .struct-told .given .1 .1 .0 .1)) (s .pre .1 .1))
 
 -- what the call says, of the atom's own value
 said : (c : tie.After-apply) → let a = c .before .before .before .args in c .apply .result ≡ reduced (domainAt (a .t1) (a .atom .identifier)) (kindOf (a .atom .comparison)) (a .atom .value)

@@ -1,4 +1,8 @@
 -- The two tests in their order; then the domain of the atom's variable decides, and `truth-promise` says what its answer means.
+use Rattle.checking.specs.Promises.{TruthMeans}
+use Rattle.checking.specs.Answers.{truthNumbers}
+use Rattle.checking.specs.declared.variable_state.Truth.{Truth}
+use Rattle.checking.proofs.AcceptedStates.{tested-state}
 use mathlib.Core.Path.{_≡_, sym, _∙_}
 use mathlib.Core.Bool.{true}
 use Prim.Native.Nat.{_<_}
@@ -10,16 +14,13 @@ use Rattle.integers.proofs.Ints.{back}
 use Rattle.checking.specs.Atoms.{atomOf, atomFrom, rightAtom}
 use Rattle.checking.proofs.ReadWords.{read-right, read-atom, made-known}
 use Rattle.checking.specs.Domains.{isTrue}
-use Rattle.checking.specs.States.{AcceptedState, domainAt, accepted, truthOf}
+use Rattle.checking.specs.States.{domainAt, accepted, truthOf}
 use Rattle.checking.proofs.Promises.{truth-promise}
 use borrow.Author.Needs.{needs}
 use Rattle.checking.proofs.variable_state.VariableState.is_true.Statement.{statement}
 use Rattle.checking.proofs.variable_state.VariableState.is_true.Tie as tie
 
 -- what the tests say: the state, and the words
-proper : (c : tie.After-is-accepted) → accepted (c .before .args .t1 .domains) ≡ true → AcceptedState (c .before .args .t1)
-proper c y = c .is-accepted .ensures .1 (c .is-accepted .ensures .0 ∙ y)
-
 state-right : (c : tie.Else1) → accepted (c .before .before .args .t1 .domains) ≡ true
 state-right c = sym (c .before .is-accepted .ensures .0) ∙ not-false _ (c .if1 .left)
 
@@ -36,20 +37,23 @@ made c = let f = c .before .before .before .before .before .fits in c .new .ensu
 known : (c : tie.After-new) → c .new .result .identifier < VARIABLES
 known c = made-known _ _ _ (c .new .result) (made c) (atom-right (c .before))
 
+-- what an answer means
+promise : (c : tie.After-is-accepted) → let a = c .before .args in (r : Truth) → r ≡ truthOf (a .t1) (a .variable) (a .kind) (a .value)
+    → (truthNumbers r ≡ truthNumbers (truthOf (a .t1) (a .variable) (a .kind) (a .value))) × TruthMeans (a .t1) (a .variable) (a .kind) (a .value) r
+promise c = let a = c .before .args in truth-promise (a .t1) (a .variable) (a .kind) (a .value) (tested-state (c .is-accepted .ensures))
+
 returns : tie.Need-returns
 unfolding truthOf
-returns c = let a = c .before .before .args in
-    truth-promise (a .t1) (a .variable) (a .kind) (a .value) (proper (c .before)) _ (rw (sym (c .before .is-accepted .ensures .0) ∙ not-true _ (c .if1 .taken)))
+returns c = promise (c .before) _ (rw (sym (c .before .is-accepted .ensures .0) ∙ not-true _ (c .if1 .taken)))
 
 returns-2 : tie.Need-returns-2
 unfolding truthOf
-returns-2 c = let a = c .before .before .before .before .args in
-    truth-promise (a .t1) (a .variable) (a .kind) (a .value) (proper (c .before .before .before)) _ (rw (state-right (c .before .before), tested (c .before) ∙ not-true _ (c .if2 .taken)))
+returns-2 c = promise (c .before .before .before) _ (rw (state-right (c .before .before), tested (c .before) ∙ not-true _ (c .if2 .taken)))
 
 is-true-requires : tie.Need-is-true-requires
 is-true-requires c κs =
     let right = c .before .before .before .before in
-    proper (right .before) (state-right right) .each (c .before .new .result .identifier) (known (c .before)) .tight
+    tested-state (right .before .is-accepted .ensures) (state-right right) .each (c .before .new .result .identifier) (known (c .before)) .tight
 
 -- what the domain's own test says, of the atom's words
 said : (c : tie.After-is-true) → let new = c .before .before in let a = new .before .before .before .before .before .args in
@@ -62,16 +66,14 @@ said c =
 returns-3 : tie.Need-returns-3
 unfolding truthOf
 returns-3 c =
-    let right = c .before .before .before .before .before .before in
-    let a = right .before .before .args in
-    truth-promise (a .t1) (a .variable) (a .kind) (a .value) (proper (right .before)) _ (rw (state-right right, atom-right (c .before .before .before .before), sym (said (c .before)) ∙ c .if3 .taken))
+    let words = c .before .before .before .before in
+    promise (words .before .before .before) _ (rw (state-right (words .before .before), atom-right words, sym (said (c .before)) ∙ c .if3 .taken))
 
 returns-4 : tie.Need-returns-4
 unfolding truthOf
 returns-4 c =
-    let right = c .before .before .before .before .before .before in
-    let a = right .before .before .args in
-    truth-promise (a .t1) (a .variable) (a .kind) (a .value) (proper (right .before)) _ (rw (state-right right, atom-right (c .before .before .before .before), sym (said (c .before)) ∙ c .if3 .left))
+    let words = c .before .before .before .before in
+    promise (words .before .before .before) _ (rw (state-right (words .before .before), atom-right words, sym (said (c .before)) ∙ c .if3 .left))
 
 pub is-true-spec : {M : Type 1} → statement M
 is-true-spec =
