@@ -40,9 +40,6 @@ pub record AcceptedTasks (limit : ℕ) (ds : List ℕ) (es ls : List ℤ) : Type
   pub to : (k : ℕ) → k < length ds → getD ls k (pos 0) ≤ℤ pos limit
   pub ranges : (k : ℕ) → k < length ds → getD es k (pos 0) ≤ℤ getD ls k (pos 0)
 
-weaker : (a b : ℤ) → a <ℤ b → a ≤ℤ b
-weaker a b h = omega ints
-
 pub is-done : (e : End) → (e ≡ done) ⊎ (e ≡ done → ⊥)
 is-done done = inl refl
 is-done (overload r) = inr (λ z. let y : _≡_ {A = ℕ} 0 1 = cc in omega arith)
@@ -65,7 +62,7 @@ module _ (o : ℕ) (Z : Tasks whole) (okz : Proper Z) (deepz : (k : ℕ) → k <
 
   bound-above : (j : ℕ) → j < length (tr .posts) → Above o (post tr j .bound)
   bound-above j q = let p : PostRight Z (post tr j) = out .goods j q in
-      above-up o (Z .earliest (post tr j .task)) (post tr j .bound) (weaker (Z .earliest (post tr j .task)) (post tr j .bound) (p .raises)) (deepz (post tr j .task) (p .small))
+      above-up o (Z .earliest (post tr j .task)) (post tr j .bound) (omega (ints, p .raises)) (deepz (post tr j .task) (p .small))
 
   finished : tr .end ≡ done → Done Z (λ k. getD (tr .starts) k (pos 0)) (length (tr .posts)) (λ j. post tr j .task) (λ j. post tr j .bound)
   finished z = done← o Z okz deepz (λ k. getD (tr .starts) k (pos 0)) (length (tr .posts)) (λ j. post tr j .task) (λ j. post tr j .bound) (λ k q. out .above k) bound-above (out .when-done z)

@@ -147,13 +147,13 @@ module _ (o : ℕ) (J : Tasks natural) (ok : Proper J) (estOrder lctOrder : List
         less-out S i k (names k ∙ ap (λ (w : Bool). w || (eqb i k || false)) white) (λ z. clash (rw z at y) (lt-leb t (index lctOrder i) late))
 
     onward-ω : (a k : ℕ) → m ≤ a → k < n → leb a (rank k) && ω k ≡ leb a (rank k) && Θ k
-    onward-ω a k h q = by (bool (leb a (rank k))) (bool (Θ k)) (bool (ω k))
-      where
-        by : (leb a (rank k) ≡ true) ⊎ (leb a (rank k) ≡ false) → (Θ k ≡ true) ⊎ (Θ k ≡ false) → (ω k ≡ true) ⊎ (ω k ≡ false) → leb a (rank k) && ω k ≡ leb a (rank k) && Θ k
-        by (inr e) y w = rw e
-        by (inl e) (inl y) w = rw (e, y) (ω-out k q y (omega (arith, leb-true a (rank k) e)))
-        by (inl e) (inr y) (inl w) = clash (ω-in k w .1) y
-        by (inl e) (inr y) (inr w) = rw (e, y) w
+    onward-ω a k h q = elim (bool (leb a (rank k))) [
+      | inr e ↦ rw e
+      | inl e ↦ rw e (elim (bool (ω k)) [
+        | inl w ↦ w ∙ sym (ω-in k w .1)
+        | inr w ↦ elim (bool (Θ k)) [ inl y ↦ clash (ω-out k q y (omega (arith, leb-true a (rank k) e))) w | inr y ↦ w ∙ sym y ]
+      ])
+    ]
 
     sum-from : (a : ℕ) → m ≤ a → processing J (λ k. leb a (rank k) && ω k) ≡ processing J (λ k. leb a (rank k) && Θ k)
     sum-from a h = processing-same J (λ k. leb a (rank k) && ω k) (λ k. leb a (rank k) && Θ k) (λ k q. onward-ω a k h q)

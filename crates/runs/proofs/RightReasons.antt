@@ -3,7 +3,7 @@ use mathlib.Core.Path.{_≡_, refl, sym, ap, subst, _∙_}
 use mathlib.Core.Bool.{true, false}
 use mathlib.Core.Logic.{inl, inr, _↔_}
 use mathlib.Core.List.{List, [], _∷_, _++_}
-use mathlib.Core.Option.{Option, some}
+use mathlib.Core.Option.{some}
 use Prim.Native.Nat.{ℕ, _+_, _-_, _/_, _≤_, _<_, min}
 use native.Mathlib.Omega.{arith}
 use lib.Dec.{leb}
@@ -11,7 +11,7 @@ use lib.IntN.{ℤ, pos, negsuc, _+ℤ_, subℕ}
 use lib.Signed.{_≤ℤ_, ≤ℤ-refl}
 use lib.ListN.{getD}
 use borrow.Author.Tests.{ne-eqb, eq-eqb, lt-leb}
-use Rattle.scheduling.specs.Scheduling.{whole, natural, Tasks, Proper, TaskSet, _with_, In, Outside, Subset, completion, Est, EdgeFindingBound, RuleFormula}
+use Rattle.scheduling.specs.Scheduling.{whole, natural, Tasks, Proper, TaskSet, _with_, In, Outside, Subset, completion, Est, EdgeFindingBound}
 use Rattle.scheduling.specs.Scheduling as defs
 use Rattle.integers.proofs.Bools.{clash}
 use Rattle.scheduling.proofs.Sets.{with-in, with-new, with-old}
@@ -70,20 +70,11 @@ module _ (o : ℕ) (Z : Tasks whole) (okz : Proper Z) (deepz : (k : ℕ) → k <
   abbrev rank : ℕ → ℕ
   rank k = index estOrder k
 
-  abbrev L : ℕ → ℕ
-  L t = getD lctOrder t 0
-
   abbrev place : ℕ → ℕ
   place k = index lctOrder k
 
   abbrev at : ℕ → ℤ
   at m = subℕ m o
-
-  abbrev ectOf : List Leaf → Option ℕ
-  ectOf = leaves.ect J estOrder
-
-  abbrev En : ℕ → ℕ
-  En t = completion J (L t)
 
   abbrev ea : ℕ → ℕ
   ea j = J .earliest (T j)
@@ -126,6 +117,10 @@ module _ (o : ℕ) (Z : Tasks whole) (okz : Proper Z) (deepz : (k : ℕ) → k <
     abbrev Θ : TaskSet
     Θ k = leb t (place k)
 
+    -- the level's lct
+    abbrev c : ℕ
+    c = completion J (getD lctOrder t 0)
+
     module _ (s : tree.Represents J ok estOrder rk ls Θ Λ) (small : t < n) where
       abbrev onward : ℕ → TaskSet
       onward = walks.onward o J ok estOrder lctOrder rk ls Θ Λ s
@@ -150,13 +145,10 @@ module _ (o : ℕ) (Z : Tasks whole) (okz : Proper Z) (deepz : (k : ℕ) → k <
       }
 
       -- a post -----------------------------------------------------------------------------------------------------------------
-      module _ (x : ℕ) (f : tree.Found J ok estOrder rk ls Θ Λ s x) (late : place (T x) < t) (over : exceeds (leaves.ect-bar J estOrder ls) (En t) ≡ true) (b : ℕ) (is : ectOf ls ≡ some b)
+      module _ (x : ℕ) (f : tree.Found J ok estOrder rk ls Θ Λ s x) (late : place (T x) < t) (over : exceeds (leaves.ect-bar J estOrder ls) c ≡ true) (b : ℕ) (is : leaves.ect J estOrder ls ≡ some b)
           (up : J .earliest (T x) < b) (edge : EdgeFindingBound J (T x) b) where
         abbrev i : ℕ
         i = T x
-
-        abbrev c : ℕ
-        c = En t
 
         abbrev As : List Atom
         As = propagation o J i b c (leaves.sum J estOrder ls) (theta J estOrder ls)
@@ -248,14 +240,13 @@ module _ (o : ℕ) (Z : Tasks whole) (okz : Proper Z) (deepz : (k : ℕ) → k <
         G-i′ : G .latest i ≡ b - 1
         G-i′ = rw (eq-eqb i i refl)
 
-        G-late : (k : ℕ) → (k ≡ i → ⊥) → G .latest k ≡ last - J .duration k
-        G-late k ne = let z : (r + (dr m + J .duration i)) - 1 ≡ last = omega arith in rw (ne-eqb k i ne, z)
-
         pre-says : (k : ℕ) (z : ℤ) → Admits Pre k z ↔ (In J Ω k → (at (G .earliest k) ≤ℤ z) × (z ≤ℤ at (last - J .duration k)))
         pre-says k z = rw (two .is) (walks.listed-says o J ok estOrder lctOrder rk ls Θ Λ s m (one .left) (one .all) (G .earliest) (λ k. last - J .duration k) k z)
 
         late-Ω : (k : ℕ) → In J Ω k → G .latest k ≡ last - J .duration k
-        late-Ω k h = G-late k (λ e. clash (h .mem) (subst (λ (j : ℕ). Ω j ≡ false) (sym e) (out .mem)))
+        late-Ω k h =
+            let z : (r + (dr m + J .duration i)) - 1 ≡ last = omega arith in
+            rw (ne-eqb k i (λ e. clash (h .mem) (subst (λ (j : ℕ). Ω j ≡ false) (sym e) (out .mem))), z)
 
         says : (k : ℕ) (z : ℤ) → Admits Full k z ↔ (In J (Ω with i) k → (at (G .earliest k) ≤ℤ z) × (z ≤ℤ at (G .latest k)))
         says k z = (
@@ -280,9 +271,6 @@ module _ (o : ℕ) (Z : Tasks whole) (okz : Proper Z) (deepz : (k : ℕ) → k <
           | inr y ↦ (let w : In J Ω k = record { small = h .small; mem = y } in omega (arith, G-low k w, G-high k w, ok .ranges k (h .small)))
         ]
 
-        passes-ℕ : RuleFormula G Ω i
-        passes-ℕ = why.passes J ok Ω Ω′ i r (ea m′) b c out sub est′ (two .over) low low-i by-c past
-
         passes : PassesWith Z (Pre ++ Mine) (consequentOf (record { task = i; bound = at b; reason = As }))
         passes = record {
           ranges = B Full (Ω with i) (G .earliest) (G .latest) range says;
@@ -290,7 +278,7 @@ module _ (o : ℕ) (Z : Tasks whole) (okz : Proper Z) (deepz : (k : ℕ) → k <
           bounded = bounded Full (Ω with i) (G .earliest) (G .latest) range says;
           formula = checks-down o (B Full (Ω with i) (G .earliest) (G .latest) range says) (okz .lasts) (Ω with i) (G .earliest) (G .latest) (λ k h. instant-above o (G .earliest k))
               (in-range Full (Ω with i) (G .earliest) (G .latest) range says) (λ k h. moment-instant o (G .earliest k)) (λ k h. moment-instant o (G .latest k))
-              Ω (λ k h. with-old Ω i k (h .mem)) i (with-new Ω i) passes-ℕ;
+              Ω (λ k h. with-old Ω i k (h .mem)) i (with-new Ω i) (why.passes J ok Ω Ω′ i r (ea m′) b c out sub est′ (two .over) low low-i by-c past);
         }
 
         at-entry : HoldsAtEntry Z (Pre ++ Mine)
@@ -312,21 +300,18 @@ module _ (o : ℕ) (Z : Tasks whole) (okz : Proper Z) (deepz : (k : ℕ) → k <
         }
 
       -- an overload -------------------------------------------------------------------------------------------------------------
-      module _ (room : (k : ℕ) → k < n → defs.processing J (λ _. true) ≤ J .earliest k) (passes : exceeds (ectOf ls) (En t) ≡ true) where
-        abbrev d : ℕ
-        d = En t
-
+      module _ (room : (k : ℕ) → k < n → defs.processing J (λ _. true) ≤ J .earliest k) (passes : exceeds (leaves.ect J estOrder ls) c ≡ true) where
         abbrev Os : List Atom
-        Os = conflict o J d (leaves.sum J estOrder ls) (theta J estOrder ls)
+        Os = conflict o J c (leaves.sum J estOrder ls) (theta J estOrder ls)
 
-        stopped : walks.Stopped o J ok estOrder lctOrder rk ls Θ Λ s d Os
+        stopped : walks.Stopped o J ok estOrder lctOrder rk ls Θ Λ s c Os
         stopped = stops.overload-stops o J ok estOrder lctOrder rk ord t ls Λ s small passes
 
         abbrev q : ℕ
         q = stopped .m
 
         abbrev delta : ℕ
-        delta = (ea q + dr q) - (d + 1)
+        delta = (ea q + dr q) - (c + 1)
 
         abbrev left : ℕ
         left = delta / 2
@@ -343,29 +328,29 @@ module _ (o : ℕ) (Z : Tasks whole) (okz : Proper Z) (deepz : (k : ℕ) → k <
         low-O : (k : ℕ) → In J O k → ea q ≤ J .earliest k
         low-O k h = after q k (h .small) ((on-in q k (h .mem)) .0)
 
-        ends-O : (k : ℕ) → In J O k → completion J k ≤ d
+        ends-O : (k : ℕ) → In J O k → completion J k ≤ c
         ends-O k h = stops.ends o J ok estOrder lctOrder rk ord t ls Λ s small k (record { small = h .small; mem = (on-in q k (h .mem)) .1 })
 
-        slack : d + (left + right) + 1 ≡ ea q + dr q
+        slack : c + (left + right) + 1 ≡ ea q + dr q
         slack = omega (arith, stopped .over)
 
         roomy : left ≤ ea q
         roomy = omega (arith, ends-O (T q) q-in, ok .ranges (T q) (q-in .small), room (T q) (q-in .small), processing-mono J O (λ _. true) (λ k h. refl))
 
         abbrev S : Tasks natural
-        S = why.Span J ok O (ea q) d left right (T q, q-in) low-O ends-O slack roomy
+        S = why.Span J ok O (ea q) c left right (T q, q-in) low-O ends-O slack roomy
 
         abbrev In-O : List Atom
-        In-O = within o J (ea q - left) (d + right) (thetaOf (whiteAt ls) (taskAt J estOrder) q (stopped .left))
+        In-O = within o J (ea q - left) (c + right) (thetaOf (whiteAt ls) (taskAt J estOrder) q (stopped .left))
 
         S-low : (k : ℕ) → In J O k → S .earliest k ≤ J .earliest k
-        S-low = why.span-low J ok O (ea q) d left right (T q, q-in) low-O ends-O slack roomy
+        S-low = why.span-low J ok O (ea q) c left right (T q, q-in) low-O ends-O slack roomy
 
         S-high : (k : ℕ) → In J O k → J .latest k ≤ S .latest k
-        S-high = why.span-high J ok O (ea q) d left right (T q, q-in) low-O ends-O slack roomy
+        S-high = why.span-high J ok O (ea q) c left right (T q, q-in) low-O ends-O slack roomy
 
         says-O : (k : ℕ) (z : ℤ) → Admits In-O k z ↔ (In J O k → (at (S .earliest k) ≤ℤ z) × (z ≤ℤ at (S .latest k)))
-        says-O k z = rw (walks.within-between o J (S .earliest) (S .latest) (ea q - left) (d + right) (thetaOf (whiteAt ls) (taskAt J estOrder) q (stopped .left)) (λ k h. (refl, refl)))
+        says-O k z = rw (walks.within-between o J (S .earliest) (S .latest) (ea q - left) (c + right) (thetaOf (whiteAt ls) (taskAt J estOrder) q (stopped .left)) (λ k h. (refl, refl)))
             (walks.listed-says o J ok estOrder lctOrder rk ls Θ Λ s q (stopped .left) (stopped .all) (S .earliest) (S .latest) k z)
 
         range-O : (k : ℕ) → In J O k → S .earliest k ≤ S .latest k
@@ -378,7 +363,7 @@ module _ (o : ℕ) (Z : Tasks whole) (okz : Proper Z) (deepz : (k : ℕ) → k <
           bounded = bounded In-O O (S .earliest) (S .latest) range-O says-O;
           formula = overloads-down o (B In-O O (S .earliest) (S .latest) range-O says-O) (okz .lasts) O (S .earliest) (S .latest) (λ k h. instant-above o (S .earliest k))
               (in-range In-O O (S .earliest) (S .latest) range-O says-O) (λ k h. moment-instant o (S .earliest k)) (λ k h. moment-instant o (S .latest k))
-              O (λ k h. h .mem) (why.span-overloads J ok O (ea q) d left right (T q, q-in) low-O ends-O slack roomy);
+              O (λ k h. h .mem) (why.span-overloads J ok O (ea q) c left right (T q, q-in) low-O ends-O slack roomy);
         }
 
         entry-O : HoldsAtEntry Z In-O

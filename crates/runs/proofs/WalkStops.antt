@@ -1,5 +1,5 @@
 -- Where the walks of the reasons stop, at a level of a run: inside Θ.
-use mathlib.Core.Path.{_≡_, sym, ap, subst, _∙_}
+use mathlib.Core.Path.{_≡_, ap, subst, _∙_}
 use mathlib.Core.Bool.{Bool, true}
 use mathlib.Core.List.{List, _∷_, _++_}
 use mathlib.Core.Logic.{inl, inr}
@@ -97,12 +97,12 @@ module _ (o : ℕ) (J : Tasks natural) (ok : Proper J) (estOrder lctOrder : List
     unfolding spot
     spot-up x y q =
         let z : y ≡ x + (y - x) = omega arith in
-        subst (λ (d : ℕ). length (thetaOf (whiteAt ls) (taskAt J estOrder) 0 x) ≤ length (thetaOf (whiteAt ls) (taskAt J estOrder) 0 d)) (sym z)
-        (omega (
+        omega (
           arith,
+          ap (λ (d : ℕ). length (thetaOf (whiteAt ls) (taskAt J estOrder) 0 d)) z,
           ap length (theta-append (whiteAt ls) (taskAt J estOrder) 0 x (y - x)),
           lib.ListN.length-append (thetaOf (whiteAt ls) (taskAt J estOrder) 0 x) (thetaOf (whiteAt ls) (taskAt J estOrder) (0 + x) (y - x)),
-        ))
+        )
 
     -- the overload's walk stops
     pub overload-stops : exceeds (ect J estOrder ls) c ≡ true → walks.Stopped o J ok estOrder lctOrder rk ls Θ Λ s c (conflict o J c (sum J estOrder ls) (theta J estOrder ls))
