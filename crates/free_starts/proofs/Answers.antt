@@ -63,7 +63,7 @@ module _ (o : ℕ) (J : Tasks whole) (M : Tasks natural) (at-moments : AtMoments
         e .none-before (moment o u) (mono o t u h) (omega (arith, mono< o u (instant o m) q (instant-above o m) l, moment-instant o m)) (free-down d u q f));
   }
 
--- ---- a call by the number and the order that its refusal answers; u and v are its moment and its length as the machine hands them on
+-- ---- a call by the number and the order that its refusal answers; u and v are its moment and length as words
 module _ (r : DisjunctivePropagator) (es ls : List ℤ) (u v : ℤ) {f : FixedOrder} (o : Tested es (freeNumber r es ls u v) f) where
   pub refused : (t d : ℤ) (m : ℕ) → m ≡ f .number → (m ≡ 0 → ⊥) → u ≡ t → v ≡ d → FreeStartAnswered r es ls t d (Refused m)
   refused t d m e not p q =
