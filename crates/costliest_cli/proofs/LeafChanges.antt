@@ -4,6 +4,7 @@ use mathlib.Core.Bool.{true}
 use mathlib.Core.List.{List, [], _∷_, map}
 use mathlib.Core.Logic.{_⊎_, inr}
 use Prim.Native.Nat.{ℕ, zero, suc, _+_, _-_, _*_, _≤_, _<_}
+use native.Mathlib.Nat.{mul-le-mul}
 use native.Mathlib.Omega.{arith}
 use lib.IntN.{ℤ, pos}
 use lib.ListN.{length, getD, take, replicate, length-replicate, getD-replicate}
@@ -20,7 +21,7 @@ use Rattle.runs.specs.Runs.{tabulate, propagate}
 use Rattle.runs.specs.Costliest.{costliestStarts, costliestDurations}
 use Rattle.runs.proofs.TaskLists.{tab-length, tab-at, tab-map}
 use Rattle.runs.proofs.Costliest.{costliest-run}
-use Rattle.records.specs.Records.{durationAt, creationTests, newRecord}
+use Rattle.records.specs.Records.{Lawful, durationAt, creationTests, newRecord}
 use Rattle.records.specs.Refusals.{runNumber, StartFits}
 use Rattle.records.proofs.Creation.{created-lawful, natural-count, natural-duration, natural-accepted}
 use Rattle.records.proofs.RefusedRuns.{accepted-run}
@@ -29,7 +30,6 @@ use Rattle.text.specs.Numbers.{numbersOf}
 use Rattle.plan_cli.specs.Lines.{lines, doneLine}
 use Rattle.plan_cli.specs.RunLines.{runLines, answerLines}
 use Rattle.plan_cli.specs.Printed.{Triple, numbered, ranOn, planned, plannedOf, answered, printed}
-use Rattle.plan_cli.proofs.PrintedNumbers.{words}
 use Rattle.costliest_cli.specs.Tasks.{instanceLines, costliestTask, costliest}
 use Rattle.costliest_cli.proofs.TasksReadBack.{costliest-answered}
 
@@ -89,15 +89,18 @@ module _ (n : ℕ) where
     same-long : length es ≡ length ds
     same-long = starts-long ∙ sym durations-long
 
+    lawful : Lawful (newRecord ds)
+    lawful = created-lawful ds created
+
     accepted : runNumber (newRecord ds) es es true (4 * TASKS) (3 * ATOMS) ≡ 0
     unfolding up dn
     accepted = accepted-run (newRecord ds) es es true (4 * TASKS) (3 * ATOMS) .1 (
       record {
-        lawful = created-lawful ds created;
+        lawful = lawful;
         counts = record { earliest = same-long; latest = same-long };
         starts = record { earliest = near; latest = near };
         ranges = λ k q. omega ints;
-        words = words es es ds created same-long same-long;
+        words = record { posts = omega (arith, lawful .few); atoms = omega (arith, mul-le-mul {n₁ = length ds} {m₁ = length ds} {n₂ = TASKS} {m₂ = TASKS} (lawful .few) (lawful .few)) };
       },
       refl,
     )

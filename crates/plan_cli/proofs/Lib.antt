@@ -4,6 +4,5 @@ pub mod Reports
 pub mod PrintedRun
 pub mod InputTasks
 pub mod PrintedSlices
-pub mod PrintedNumbers
 pub mod FirstBytes
 mod Marks

@@ -52,26 +52,16 @@ puts-refused number p q r = puts-append (puts-append p q) r
 
 -- ---- lines of a list, one by one
 module _ {A : Type 0} (f : A → List ℕ) (d : A) where
-  lines-none : lines f [] ≡ []
-  unfolding lines
-  lines-none = refl
-
-  lines-next : (x : A) (xs : List A) → lines f (x ∷ xs) ≡ f x ++ lines f xs
-  unfolding lines
-  lines-next x xs = refl
-
   lines-suc : (xs : List A) (k : ℕ) → k < length xs → lines f (take (suc k) xs) ≡ lines f (take k xs) ++ f (getD xs k d)
+  unfolding lines
   lines-suc [] k h = absurd (omega arith)
-  lines-suc (x ∷ xs) zero h = lines-next x [] ∙ ap (λ (l : List ℕ). f x ++ l) lines-none ∙ append-nil (f x) ∙ ap (λ (l : List ℕ). l ++ f x) (sym lines-none)
-  lines-suc (x ∷ xs) (suc k) h =
-      lines-next x (take (suc k) xs)
-      ∙ ap (λ (l : List ℕ). f x ++ l) (lines-suc xs k (omega arith))
-      ∙ sym (append-assoc (f x) (lines f (take k xs)) (f (getD xs k d)))
-      ∙ ap (λ (l : List ℕ). l ++ f (getD xs k d)) (sym (lines-next x (take k xs)))
+  lines-suc (x ∷ xs) zero h = append-nil (f x)
+  lines-suc (x ∷ xs) (suc k) h = ap (λ (l : List ℕ). f x ++ l) (lines-suc xs k (omega arith)) ∙ sym (append-assoc (f x) (lines f (take k xs)) (f (getD xs k d)))
 
   -- the buffer with one more of them
   pub puts-first : (before : List ℕ) (at : ℕ) (xs : List A) → Puts before before at (lines f (take 0 xs)) at
-  puts-first before at xs = puts-as (sym lines-none) (record { text = refl; end = omega arith })
+  unfolding lines
+  puts-first before at xs = record { text = refl; end = omega arith }
 
   pub puts-next : {o₀ o₁ o₂ : List ℕ} {a₀ a₁ a₂ : ℕ} (xs : List A) (k : ℕ) → k < length xs → Puts o₀ o₁ a₀ (lines f (take k xs)) a₁ → Puts o₁ o₂ a₁ (f (getD xs k d)) a₂
       → Puts o₀ o₂ a₀ (lines f (take (k + 1) xs)) a₂
@@ -81,11 +71,7 @@ module _ {A : Type 0} (f : A → List ℕ) (d : A) where
   puts-all xs k h p = puts-as (ap (lines f) (take-all k xs h)) p
 
 -- ---- a reason's lines from its words
--- the buffer before the first line of a reason
-pub puts-why-first : (before : List ℕ) (at : ℕ) (atoms : List Atom) → Puts before before at (whyLines (take 0 atoms)) at
-puts-why-first before at atoms = puts-first whyOf no-atom before at atoms
-
--- and with all of them
+-- the buffer with all of them
 pub puts-why-all : {o₀ o₁ : List ℕ} {a₀ a₁ : ℕ} (words : List ℤ) (k : ℕ) → length words / 3 ≤ k
     → ((atoms : List Atom) → words ≡ atomWords atoms → Puts o₀ o₁ a₀ (whyLines (take k atoms)) a₁)
     → (atoms : List Atom) → words ≡ atomWords atoms → Puts o₀ o₁ a₀ (whyLines atoms) a₁

@@ -1,5 +1,5 @@
 -- A run of white space, or of other bytes, and what the next byte makes of a word.
-use mathlib.Core.Path.{_≡_, sym, _∙_}
+use mathlib.Core.Path.{_≡_, sym}
 use mathlib.Core.Bool.{Bool, true, false, Bool·beq}
 use mathlib.Core.List.{List, [], _∷_, _++_}
 use Prim.Native.Nat.{ℕ, suc, _+_, _≤_, _<_}
@@ -9,26 +9,19 @@ use lib.Seq.{drop-cons}
 use Rattle.text.specs.Numbers.{space, pieces}
 use Rattle.text.specs.Words.{runLength}
 
-module _ (white : Bool) where
-  run-on : (b : ℕ) (bs : List ℕ) → Bool·beq (space b) white ≡ true → runLength white (b ∷ bs) ≡ suc (runLength white bs)
+-- ---- the run from a place of a slice on
+module _ (white : Bool) (bs : List ℕ) (i : ℕ) where
+  pub run-none : length bs ≤ i → runLength white (drop i bs) ≡ 0
   unfolding runLength
-  run-on b bs h = rw (h, runLength)
+  run-none h = rw (drop-of-length-le bs h)
 
-  run-stop : (b : ℕ) (bs : List ℕ) → Bool·beq (space b) white ≡ false → runLength white (b ∷ bs) ≡ 0
+  pub run-ends : i < length bs → Bool·beq (space (getD bs i 0)) white ≡ false → runLength white (drop i bs) ≡ 0
   unfolding runLength
-  run-stop b bs h = rw (h, runLength)
+  run-ends h d = rw (drop-cons bs i 0 h, d, runLength)
 
-  -- from a place of a slice on
-  module _ (bs : List ℕ) (i : ℕ) where
-    pub run-none : length bs ≤ i → runLength white (drop i bs) ≡ 0
-    unfolding runLength
-    run-none h = rw (drop-of-length-le bs h)
-
-    pub run-ends : i < length bs → Bool·beq (space (getD bs i 0)) white ≡ false → runLength white (drop i bs) ≡ 0
-    run-ends h d = rw (drop-cons bs i 0 h) (run-stop (getD bs i 0) (drop (suc i) bs) d)
-
-    pub run-more : i < length bs → Bool·beq (space (getD bs i 0)) white ≡ true → runLength white (drop i bs) ≡ runLength white (drop (i + 1) bs) + 1
-    run-more h d = rw (add-one i, drop-cons bs i 0 h) (run-on (getD bs i 0) (drop (suc i) bs) d ∙ sym (add-one (runLength white (drop (suc i) bs))))
+  pub run-more : i < length bs → Bool·beq (space (getD bs i 0)) white ≡ true → runLength white (drop i bs) ≡ runLength white (drop (i + 1) bs) + 1
+  unfolding runLength
+  run-more h d = rw (add-one i, drop-cons bs i 0 h, d, runLength) (sym (add-one (runLength white (drop (suc i) bs))))
 
 -- ---- the words
 pub piece-end : (w : List ℕ) (b : ℕ) (bs : List ℕ) → space b ≡ true → pieces w (b ∷ bs) ≡ w ∷ pieces [] bs

@@ -8,11 +8,11 @@ use lib.ListN.{length, getD, take}
 use mir.Syntax.{w32}
 use Rattle.integers.proofs.Ints.{back-of}
 use Rattle.scheduling.specs.Scheduling.{Atom}
-use Rattle.scheduling.specs.Words.{atomWords}
+use Rattle.scheduling.specs.Words.{atomWords, no-atom}
 use Rattle.text.specs.DecimalText.{Puts}
 use Rattle.text.proofs.PutBytes.{puts-length}
 use Rattle.plan_cli.specs.Lines.{whyOf, lines}
-use Rattle.plan_cli.proofs.RunLines.{puts-why-first, puts-why-next, puts-why-all}
+use Rattle.plan_cli.proofs.RunLines.{puts-first, puts-why-next, puts-why-all}
 use borrow.Author.Needs.{needs}
 use Rattle.plan_cli.proofs.lines.put_reason.Statement.{statement}
 use Rattle.plan_cli.proofs.lines.put_reason.Tie as tie
@@ -25,7 +25,7 @@ abbrev μ-loop : tie.MeasureT-loop
 μ-loop out₀ at words n end₀ k₀ out end k = n - k
 
 loop-holds : tie.Need-loop-holds Inv-loop μ-loop
-loop-holds c = (omega arith, c .atoms-in .ensures, refl, omega arith, λ atoms w. puts-why-first _ _ atoms)
+loop-holds c = (omega arith, c .atoms-in .ensures, refl, omega arith, λ atoms w. puts-first whyOf no-atom _ _ atoms)
 
 put-why-requires : tie.Need-put-why-requires Inv-loop μ-loop
 put-why-requires c κs =

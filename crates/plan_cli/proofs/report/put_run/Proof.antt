@@ -1,4 +1,5 @@
 -- By the outcome, each way one shape of the answer; `Printable` gives its room.
+use mathlib.Core.List.{List}
 use mathlib.Core.Path.{_≡_, sym, subst}
 use mathlib.Core.Logic.{_⊎_}
 use Prim.Native.Nat.{ℕ, _≤_}
@@ -18,37 +19,33 @@ use borrow.Author.Needs.{needs}
 use Rattle.plan_cli.proofs.report.put_run.Statement.{statement}
 use Rattle.plan_cli.proofs.report.put_run.Tie as tie
 
--- what the outcome is, and so what is shown
-done : (c : tie.After-outcome) (what : ℕ ⊎ Trace)
-    → Shown what (c .before .before .before .args .outcome) (c .before .before .before .args .posts .now) (c .before .before .before .args .atoms .now) (c .before .before .before .args .starts .now)
-    → Parts what (c .before .before .before .args .posts .now) (c .before .before .before .args .atoms .now) (c .outcome .given .0 .0) 0 (doneLine (c .before .before .before .args .starts .now))
-    × (length (c .before .before .before .args .starts .now) ≤ TASKS)
-done c what s = done-parts (c .before .before .before .args .posts .now) (c .before .before .before .args .atoms .now) (c .before .before .before .args .starts .now) what (c .outcome .given .0 .0)
-    (subst (λ (r : Outcome). Shown what r (c .before .before .before .args .posts .now) (c .before .before .before .args .atoms .now) (c .before .before .before .args .starts .now))
-    (c .outcome .given .1) s)
+-- what is shown at the entry, and what an outcome that is known makes of it
+abbrev ShownAt : tie.Start → ℕ ⊎ Trace → Outcome → Type 0
+ShownAt s what r = Shown what r (s .args .posts .now) (s .args .atoms .now) (s .args .starts .now)
 
-overloaded : (c : tie.After-outcome2) (what : ℕ ⊎ Trace)
-    → Shown what (c .before .before .before .args .outcome) (c .before .before .before .args .posts .now) (c .before .before .before .args .atoms .now) (c .before .before .before .args .starts .now)
+known : (s : tie.Start) {r : Outcome} → s .args .outcome ≡ r → (what : ℕ ⊎ Trace) → ShownAt s what (s .args .outcome) → ShownAt s what r
+known s e what h = subst (ShownAt s what) e h
+
+abbrev PartsAt : tie.Start → ℕ ⊎ Trace → ℕ → List ℕ → Type 0
+PartsAt s what count rest = Parts what (s .args .posts .now) (s .args .atoms .now) count 0 rest
+
+done : (c : tie.After-outcome) (what : ℕ ⊎ Trace) → ShownAt (c .before .before .before) what (c .before .before .before .args .outcome)
+    → PartsAt (c .before .before .before) what (c .outcome .given .0 .0) (doneLine (c .before .before .before .args .starts .now)) × (length (c .before .before .before .args .starts .now) ≤ TASKS)
+done c what h = done-parts _ _ _ what (c .outcome .given .0 .0) (known (c .before .before .before) (c .outcome .given .1) what h)
+
+overloaded : (c : tie.After-outcome2) (what : ℕ ⊎ Trace) → ShownAt (c .before .before .before) what (c .before .before .before .args .outcome)
     → OverloadParts (c .before .before .before .args .posts .now) (c .before .before .before .args .atoms .now) (c .before .before .before .args .starts .now) what (c .outcome2 .given .0 .0)
     (c .outcome2 .given .0 .1 .0) (c .outcome2 .given .0 .1 .1 .0)
-overloaded c what s = overload-parts (c .before .before .before .args .posts .now) (c .before .before .before .args .atoms .now) (c .before .before .before .args .starts .now) what
-    (c .outcome2 .given .0 .0) (c .outcome2 .given .0 .1 .0) (c .outcome2 .given .0 .1 .1 .0)
-    (subst (λ (r : Outcome). Shown what r (c .before .before .before .args .posts .now) (c .before .before .before .args .atoms .now) (c .before .before .before .args .starts .now))
-    (c .outcome2 .given .1) s)
+overloaded c what h = overload-parts _ _ _ what _ _ _ (known (c .before .before .before) (c .outcome2 .given .1) what h)
 
-emptied : (c : tie.After-outcome3) (what : ℕ ⊎ Trace)
-    → Shown what (c .before .before .before .args .outcome) (c .before .before .before .args .posts .now) (c .before .before .before .args .atoms .now) (c .before .before .before .args .starts .now)
-    → Parts what (c .before .before .before .args .posts .now) (c .before .before .before .args .atoms .now) (c .outcome3 .given .0 .0) 0 emptiedLine
-emptied c what s = emptied-parts (c .before .before .before .args .posts .now) (c .before .before .before .args .atoms .now) (c .before .before .before .args .starts .now) what
-    (c .outcome3 .given .0 .0) (subst (λ (r : Outcome). Shown what r (c .before .before .before .args .posts .now) (c .before .before .before .args .atoms .now)
-    (c .before .before .before .args .starts .now)) (c .outcome3 .given .1) s)
+emptied : (c : tie.After-outcome3) (what : ℕ ⊎ Trace) → ShownAt (c .before .before .before) what (c .before .before .before .args .outcome)
+    → PartsAt (c .before .before .before) what (c .outcome3 .given .0 .0) emptiedLine
+emptied c what h = emptied-parts _ _ _ what (c .outcome3 .given .0 .0) (known (c .before .before .before) (c .outcome3 .given .1) what h)
 
-refused : (c : tie.After-outcome4) (what : ℕ ⊎ Trace)
-    → Shown what (c .before .before .before .args .outcome) (c .before .before .before .args .posts .now) (c .before .before .before .args .atoms .now) (c .before .before .before .args .starts .now)
+refused : (c : tie.After-outcome4) (what : ℕ ⊎ Trace) → ShownAt (c .before .before .before) what (c .before .before .before .args .outcome)
     → answerLines what ≡ refusedLine (c .outcome4 .given .0 .0)
-refused c what s = refused-part (c .before .before .before .args .posts .now) (c .before .before .before .args .atoms .now) (c .before .before .before .args .starts .now) what
-    (c .outcome4 .given .0 .0) (subst (λ (r : Outcome). Shown what r (c .before .before .before .args .posts .now) (c .before .before .before .args .atoms .now)
-    (c .before .before .before .args .starts .now)) (c .outcome4 .given .1) s)
+refused c what h = let s = c .before .before .before in
+    refused-part (s .args .posts .now) (s .args .atoms .now) (s .args .starts .now) what (c .outcome4 .given .0 .0) (known s (c .outcome4 .given .1) what h)
 
 put-posts-requires : tie.Need-put-posts-requires
 put-posts-requires c κs = let s = c .before .before .before .before .before .pre in let p = done (c .before .before) (s .what) (s .shows) .0 in

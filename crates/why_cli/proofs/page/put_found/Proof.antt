@@ -1,5 +1,6 @@
 -- By what the call answered: its page stands already, or a line is written in its place.
 use mathlib.Core.Path.{_≡_, sym, subst}
+use mathlib.Core.Bool.{true}
 use mathlib.Core.List.{List}
 use Prim.Native.Nat.{ℕ}
 use native.Mathlib.Omega.{arith}
@@ -9,6 +10,8 @@ use borrow.Author.Needs.{needs}
 use Rattle.integers.specs.Limits.{TASKS}
 use Rattle.integers.specs.Texts.{bytesOf}
 use Rattle.text.specs.DecimalText.{Puts}
+use Rattle.conflict_pages.specs.declared.answer.ConflictPage.{ConflictPage}
+use Rattle.conflict_pages.specs.Pages.{ConflictPaged}
 use Rattle.plan_cli.proofs.RunLines.{puts-as}
 use Rattle.why_cli.proofs.PageTexts.{paged-as, page-text, nothing-text, refused-texts}
 use Rattle.why_cli.proofs.page.put_found.Statement.{statement}
@@ -30,15 +33,18 @@ slice-aggregate-conflict-page-2 c = let s = c .before .before .before in sym (le
 over : {first second third text : List ℕ} {next : ℕ} → second ≡ first → Puts second third 0 text next → Puts first third 0 text next
 over {third = third} {text = text} {next = next} e p = subst (λ (l : List ℕ). Puts l third 0 text next) e p
 
+-- what the call left, by what it answered
+abbrev start : tie.After-conflict-page → tie.Start
+start c = c .before .before .before .before .before
+
+left : (c : tie.After-conflict-page) {q : ConflictPage} → c .conflict-page .result ≡ q
+    → ConflictPaged (start c .args .«record») (take (start c .args .n) (start c .args .t4)) (take (start c .args .n) (start c .args .t5)) true (start c .args .out .now) q
+    (c .conflict-page .last .1 .1 .1 .1 .0)
+left c e = paged-as _ _ _ _ (start c .pre .1) e (c .conflict-page .ensures)
+
 returns : tie.Need-returns
-returns c =
-    let call = c .before .before .before .before .before in
-    let s = call .before .before .before .before .before in
-    let a = s .args in
-    let es = take (a .n) (a .t4) in
-    let ls = take (a .n) (a .t5) in
-    page-text (a .«record») es ls (a .out .now) (s .pre .1) _ (paged-as (a .«record») es ls (a .out .now) (s .pre .1) (c .before .page .given .1) (call .conflict-page .ensures))
-    (call .conflict-page .kept .1 .1 .1 .1 .0)
+returns c = let call = c .before .before .before .before .before in
+    page-text _ _ _ _ (start call .pre .1) _ (left call (c .before .page .given .1)) (call .conflict-page .kept .1 .1 .1 .1 .0)
 
 returns-2 : tie.Need-returns-2
 unfolding bytesOf
@@ -46,24 +52,16 @@ returns-2 c =
     let put = c .before .before .put-bytes .ensures in
     let told = c .before .before .before .before .before in
     let call = told .before .before .before .before in
-    let s = call .before .before .before .before .before in
-    let a = s .args in
-    let es = take (a .n) (a .t4) in
-    let ls = take (a .n) (a .t5) in
-    let (same, text) = nothing-text (a .«record») es ls (a .out .now) (s .pre .1) (paged-as (a .«record») es ls (a .out .now) (s .pre .1) (told .enum-told .given .1) (call .conflict-page .ensures)) in
-    (puts-as text (over same put), omega (arith, put .end, s .pre .1))
+    let (same, text) = nothing-text _ _ _ _ (start call .pre .1) (left call (told .enum-told .given .1)) in
+    (puts-as text (over same put), omega (arith, put .end, start call .pre .1))
 
 returns-3 : tie.Need-returns-3
 returns-3 c =
     let put = c .before .before .put-refused .ensures in
     let told = c .before .before .before .before .before in
     let call = told .before .before .before .before in
-    let s = call .before .before .before .before .before in
-    let a = s .args in
-    let es = take (a .n) (a .t4) in
-    let ls = take (a .n) (a .t5) in
-    let (same, text) = refused-texts (a .«record») es ls (a .out .now) (s .pre .1) _ (paged-as (a .«record») es ls (a .out .now) (s .pre .1) (told .page2 .given .1) (call .conflict-page .ensures)) in
-    (puts-as text (over same (put .0)), omega (arith, put .1, s .pre .1))
+    let (same, text) = refused-texts _ _ _ _ (start call .pre .1) _ (left call (told .page2 .given .1)) in
+    (puts-as text (over same (put .0)), omega (arith, put .1, start call .pre .1))
 
 pub put-found-spec : {M : Type 1} → statement M
 put-found-spec =
