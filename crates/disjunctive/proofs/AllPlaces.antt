@@ -1,7 +1,10 @@
--- Both arrays of starts have all their places, by the starts' type; and so have those that stand beside the bars' answer.
+-- Both arrays of starts have all their places, by the starts' type: so their first `count` numbers are there, and as many are lent.
 use mathlib.Core.Path.{_≡_, sym, _∙_}
 use mathlib.Core.List.{[], _∷_}
-use lib.ListN.{length, length-map}
+use Prim.Native.Nat.{_≤_}
+use native.Mathlib.Omega.{arith}
+use lib.ListN.{length, take, length-map}
+use lib.Seq.{length-take-le}
 use denote.Laws.{Is}
 use denote.Struct.Laws as LL
 use Rattle.integers.specs.Limits.{TASKS}
@@ -12,16 +15,19 @@ use Rattle.ranges.proofs.starts.Starts as S
 use Rattle.ranges.proofs.starts.StartsWithBars as B
 use Rattle.ranges.proofs.starts.StartsWithBars.Laws as B′
 
-module _ (s : Starts) (is : Is S.the-row s (machS s ∷ [])) where
-  pub all-earliest : length (s .earliest) ≡ TASKS
-  all-earliest = sym (length-map (s .earliest) (λ v. v)) ∙ is .1 .1 .1 .0 .1 .0 .1
+module _ (s : Starts) (is : Is S.the-row s (machS s ∷ [])) (few : s .count ≤ TASKS) where
+  pub earliest-there : s .count ≤ length (s .earliest)
+  earliest-there = let all : length (s .earliest) ≡ TASKS = sym (length-map (s .earliest) (λ v. v)) ∙ is .1 .1 .1 .0 .1 .0 .1 in omega (arith, all)
 
-  pub all-latest : length (s .latest) ≡ TASKS
-  all-latest = sym (length-map (s .latest) (λ v. v)) ∙ is .1 .1 .1 .1 .0 .1 .0 .1
+  pub latest-there : s .count ≤ length (s .latest)
+  latest-there = let all : length (s .latest) ≡ TASKS = sym (length-map (s .latest) (λ v. v)) ∙ is .1 .1 .1 .1 .0 .1 .0 .1 in omega (arith, all)
 
-module _ (r : StartsWithBars) (is : Is B.the-row r (machB r ∷ [])) where
-  pub each-earliest : length (r .starts .earliest) ≡ TASKS
-  each-earliest = all-earliest (r .starts) (LL.owed B.the-type B′.the-laws r _ is .0)
+  pub earliest-lent : s .count ≡ length (take (s .count) (s .earliest))
+  earliest-lent = sym (length-take-le (s .count) (s .earliest) earliest-there)
 
-  pub each-latest : length (r .starts .latest) ≡ TASKS
-  each-latest = all-latest (r .starts) (LL.owed B.the-type B′.the-laws r _ is .0)
+  pub latest-lent : s .count ≡ length (take (s .count) (s .latest))
+  latest-lent = sym (length-take-le (s .count) (s .latest) latest-there)
+
+-- and the starts that stand beside the bars' answer
+pub of-bars : (r : StartsWithBars) → Is B.the-row r (machB r ∷ []) → Is S.the-row (r .starts) (machS (r .starts) ∷ [])
+of-bars r is = LL.owed B.the-type B′.the-laws r _ is .0

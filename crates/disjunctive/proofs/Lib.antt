@@ -1,5 +1,4 @@
 mod AllPlaces
-mod Walk
 pub mod Locals
 pub mod LentRuns
 pub mod Routines

@@ -1,7 +1,8 @@
 -- A function's locals as one entry of a walk's context: each is found at its number in the MIR, however many there are. A local is a type, a block, and the value that lies there, if one does.
-use Rattle.disjunctive.proofs.Walk.{_≡_, refl, sym, ap, _∙_, subst, ℕ, zero, suc, List, [], _∷_, Option, some, none, Decided, URA, fullShare, Ty, place, Operand, copy, Val, WT, hasTy, SProp}
-use Rattle.disjunctive.proofs.Walk.{ent, sep, emp, id⊢, via, fst∗, ftrue, fsep, fat, Heap, Env, Atoms, sem, Given, Item, ‵, ⋆, Goal, Seq, Step, step, _$_, move, drop, fsplit, fjoin, look-in}
-use Rattle.disjunctive.proofs.Walk.{Opds, stop, load, and-then, no-more, forget, alloc1, alloc0, init, params1, pass1, pass0, free1, free0, nothing}
+use Rattle.ranges.proofs.Prelude.{_≡_, refl, sym, ap, _∙_, subst, ℕ, zero, suc, List, [], _∷_, Decided, URA, fullShare, Ty, local as place, Operand, copy, Val, WT, hasTy, SProp, ent, sep, emp, id⊢}
+use Rattle.ranges.proofs.Prelude.{via, fst∗, ftrue, fsep, fat, Heap, Env, Atoms, sem, Given, Item, ‵, ⋆, Goal, Seq, Step, step, _$_, move, drop, fsplit, fjoin, look-in, Opds, stop, load, and-then}
+use Rattle.ranges.proofs.Prelude.{no-more, forget, alloc1, alloc0, init, params1, pass1, pass0, free1, free0, nothing}
+use mathlib.Core.Option.{Option, some, none}
 use lib.ListN.{getD}
 use mir.Syntax.{tyEnum, ttnil, Step as PStep, Home, Local, local, valueLocal}
 use base.Logic.{wand, comm∗, assoc∗, assoc′, monoL, monoR, emp∗, wandI, allI, guardI}

@@ -1,5 +1,5 @@
 -- The routine of a function meets its contract, by a walk of its MIR.
-use Rattle.disjunctive.proofs.Walk.{URA, Name, Fn, Model, Names, Heap, WpFn, Closed, GhostRules, Running, givenOf, tables, FmC, fmOf, Ended, Clauses, Triple, entered, Stays, Walks}
+use Rattle.ranges.proofs.Prelude.{URA, Name, Fn, Model, Names, Heap, WpFn, Closed, GhostRules, Running, givenOf, tables, FmC, fmOf, Ended, Clauses, Triple, entered, Stays, Walks}
 use prog.Wp.{Tables}
 use contract.Running.{tablesOf}
 use sound.WpLaws.{WpFn-mono}

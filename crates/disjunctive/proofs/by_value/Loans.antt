@@ -1,7 +1,8 @@
 -- A local record and the first ranges of a local array are lent for a call, each for a lifetime of its own that ends after it, as `&` or as `&mut`. Both come back.
-use Rattle.disjunctive.proofs.Walk.{_≡_, refl, sym, _∙_, ℕ, _≤_, List, [], _∷_, URA, fullShare, named, Val, vptr, ent, Lft, GName, fsep, fat, flft, ftrue, Heap, Atoms, sem, Given, Item, ‵, _⊛_}
-use Rattle.disjunctive.proofs.Walk.{later, _$_, move, drop, use1, rewrite, split, pick, fsplit, fjoin, feqL, await, Goal, Seq, Is, RefT, ShrRef, now, length, sliceVal, MutSlice, finally, yes}
-use Rattle.disjunctive.proofs.Walk.{DisjunctivePropagator, Range}
+use Rattle.ranges.proofs.Prelude.{_≡_, refl, sym, _∙_, ℕ, _≤_, List, [], _∷_, URA, fullShare, named, Val, vptr, ent, Lft, GName, fsep, fat, flft, ftrue, Heap, Atoms, sem, Given, Item, ‵, _⊛_, later}
+use Rattle.ranges.proofs.Prelude.{_$_, move, drop, use1, rewrite, split, pick, fsplit, fjoin, feqL, await, Goal, Seq, Is, RefT, ShrRef, now, length, sliceVal, MutSlice, finally, yes}
+use Rattle.ranges.specs.declared.range.Range.{Range}
+use Rattle.records.specs.declared.record.DisjunctivePropagator.{DisjunctivePropagator}
 use native.Mathlib.Omega.{arith}
 use mathlib.Core.List.{_++_}
 use lib.ListN.{take, drop as drop-list, take-append-drop}

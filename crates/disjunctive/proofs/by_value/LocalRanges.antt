@@ -1,7 +1,8 @@
 -- The locals that a call is lent: a record, and an array of ranges of which the first are lent. Each as it lies in memory, taken apart and put together again.
-use Rattle.disjunctive.proofs.Walk.{_≡_, refl, sym, _∙_, subst, ℕ, List, [], _∷_, Decided, URA, fullShare, Ty, w64, Val, WT, hasTy, fat, fsep, GName, Heap, Atoms, Given, Item, ‵, _⊛_, _$_}
-use Rattle.disjunctive.proofs.Walk.{move, use1, rewrite, split, fsplit, fjoin, drop, Goal, Seq, Step, step, RattleType, Is, shows, cellAt, spelt, owned, RefT, Room, length}
-use Rattle.disjunctive.proofs.Walk.{DisjunctivePropagator, Range}
+use Rattle.ranges.proofs.Prelude.{_≡_, refl, sym, _∙_, subst, ℕ, List, [], _∷_, Decided, URA, fullShare, Ty, w64, Val, WT, hasTy, fat, fsep, GName, Heap, Atoms, Given, Item, ‵, _⊛_, _$_, move, use1}
+use Rattle.ranges.proofs.Prelude.{rewrite, split, fsplit, fjoin, drop, Goal, Seq, Step, step, RattleType, Is, shows, cellAt, spelt, owned, RefT, Room, length}
+use Rattle.ranges.specs.declared.range.Range.{Range}
+use Rattle.records.specs.declared.record.DisjunctivePropagator.{DisjunctivePropagator}
 use mathlib.Core.List.{map}
 use lib.Dec.{lit<}
 use lib.ListN.{take, drop as drop-list, take-append-drop, length-map}
@@ -39,8 +40,8 @@ abbrev pub machK : List Range → Val
 machK ys = LL.array-laws T.the-field T′.the-field-laws RANGES .val (map (T.the-type .to) ys)
 
 -- the type of an array of ranges, in the logic and in the MIR
-abbrev Kept : RattleType
-Kept = Array T.the-row RANGES
+abbrev RangeArray : RattleType
+RangeArray = Array T.the-row RANGES
 
 abbrev pub kept : Ty
 kept = tyArray T′.mir RANGES
@@ -78,10 +79,10 @@ each-field [] (u ∷ us) is = is
 each-field (y ∷ ys) [] is = is
 each-field (y ∷ ys) (u ∷ us) is = (is .0, each-field ys us (is .1))
 
-kept-is : (ys : List Range) (vs : List Val) → InField ys vs → Is Kept ys vs
+kept-is : (ys : List Range) (vs : List Val) → InField ys vs → Is RangeArray ys vs
 kept-is ys vs is = (is .0, ((is .1 .0 .0, sym (length-map ys (T.the-type .to)) ∙ is .1 .0 .1), each-range ys (is .0) (is .1 .1)))
 
-field-is : (ys : List Range) (vs : List Val) → Is Kept ys vs → InField ys vs
+field-is : (ys : List Range) (vs : List Val) → Is RangeArray ys vs → InField ys vs
 field-is ys vs is = (is .0, ((is .1 .0 .0, length-map ys (T.the-type .to) ∙ is .1 .0 .1), each-field ys (is .0) (is .1 .1)))
 
 pub kept-length : (ys : List Range) (vs : List Val) → InField ys vs → length ys ≡ RANGES
@@ -113,9 +114,9 @@ module _ {M : Type 1} {𝓤 : URA M} {H : Heap 𝓤} {A : Atoms 𝓤} {K : Type 
   pub kept-apart : K → (ys : List Range) (n l : ℕ) → InField ys (machK ys ∷ []) → Step K W (‵ (First l n ys) ∷ ‵ (After l n ys) ∷ Γ) G (‵ (fat fullShare kept l 0 (machK ys)) ∷ Γ) G
   unfolding partOf
   kept-apart t ys n l is = step (λ s.
-      use1 W (‵ (cellAt fullShare (Kept .mir) (machK ys ∷ []) l 0)) (W .laws .at-raw fullShare kept l 0 (machK ys)) $
-      owned t Kept (Is Kept) (array-makes 𝓤 H A W T.the-row ((LL.makes T.the-type T′.the-plain) 𝓤 H A) RANGES) ys _ (kept-is ys _ is) $ move t (1 ∷ 0 ∷ []) $ fjoin t $
-      fpack t (List Val) (λ us. fsep (cellAt fullShare (Kept .mir) us l 0) (Kept .own ys us)) (machK ys ∷ []) $
+      use1 W (‵ (cellAt fullShare (RangeArray .mir) (machK ys ∷ []) l 0)) (W .laws .at-raw fullShare kept l 0 (machK ys)) $
+      owned t RangeArray (Is RangeArray) (array-makes 𝓤 H A W T.the-row ((LL.makes T.the-type T′.the-plain) 𝓤 H A) RANGES) ys _ (kept-is ys _ is) $ move t (1 ∷ 0 ∷ []) $ fjoin t $
+      fpack t (List Val) (λ us. fsep (cellAt fullShare (RangeArray .mir) us l 0) (RangeArray .own ys us)) (machK ys ∷ []) $
       use1 W (‵ (arr-parts (shares T.the-row) RANGES .part fullShare ys l 0)) (array-apart 𝓤 H A W T.the-row fullShare tt RANGES ys l 0) $ fsplit t $ drop t $
       use1 W (‵ (cells (mem T.the-row) ys l 0)) (whole-in 𝓤 H A W T.the-row ys l 0) $
       rewrite t 0 (λ (zs : List Range). ‵ (cells (mem T.the-row) zs l 0)) (sym (take-append-drop n ys)) refl $
@@ -126,9 +127,9 @@ module _ {M : Type 1} {𝓤 : URA M} {H : Heap 𝓤} {A : Atoms 𝓤} {K : Type 
   unfolding partOf
   kept-whole t ys l e k =
       use1 W (‵ (row T.the-row fullShare ys l 0)) (whole-out 𝓤 H A W T.the-row ys l 0) $ feqI t ℕ (length ys) RANGES e $ fjoin t $
-      use1 W (‵ (partAt Kept fullShare ys l 0)) (array-whole 𝓤 H A W T.the-row fullShare RANGES ys l 0) $ fpick t (λ vs. fsplit t $ move t (1 ∷ []) $
-      facts t Kept (Is Kept) (shows 𝓤 H A Kept) ys vs (λ is. rewrite t 0 (λ (us : List Val). ‵ (cellAt fullShare (Kept .mir) us l 0)) (told vs is) refl $
+      use1 W (‵ (partAt RangeArray fullShare ys l 0)) (array-whole 𝓤 H A W T.the-row fullShare RANGES ys l 0) $ fpick t (λ vs. fsplit t $ move t (1 ∷ []) $
+      facts t RangeArray (Is RangeArray) (shows 𝓤 H A RangeArray) ys vs (λ is. rewrite t 0 (λ (us : List Val). ‵ (cellAt fullShare (RangeArray .mir) us l 0)) (told vs is) refl $
       use1 W (‵ (fat fullShare kept l 0 (machK ys))) (W .laws .raw-at fullShare kept l 0 (machK ys)) $ k (subst (InField ys) (told vs is) (field-is ys vs is))))
     where
-      told : (vs : List Val) → Is Kept ys vs → vs ≡ machK ys ∷ []
+      told : (vs : List Val) → Is RangeArray ys vs → vs ≡ machK ys ∷ []
       told vs is = LL.array-laws T.the-field T′.the-field-laws RANGES .tells (map (T.the-type .to) ys) vs (field-is ys vs is)

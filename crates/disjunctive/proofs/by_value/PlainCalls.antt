@@ -1,16 +1,15 @@
 -- A call with plain parameters: it lends the record and the first of the ranges to the open call, and returns the answer, with the array where the call stores starts in it.
 -- One walk, over how the two are lent, what else is passed, and what is said of an answer.
-use Rattle.disjunctive.proofs.Walk.{_≡_, refl, sym, ap, _∙_, subst, ℕ, zero, suc, _≤_, List, [], _∷_, Option, some, none, Decided, URA, fullShare, Name, Ty, tyRef, tyInt, w64, imm, mut}
-use Rattle.disjunctive.proofs.Walk.{place, copy, Body}
-use Rattle.disjunctive.proofs.Walk.{Operand, seq, assign, call, Fn, Val, WT, hasTy, vptr, SProp, ent, sep, emp, id⊢, via, fst∗, ftrue, fsep, fat, flft, GName, Model, Routine, Names, Heap}
-use Rattle.disjunctive.proofs.Walk.{Calls}
-use Rattle.disjunctive.proofs.Walk.{Loops, Env, WpFn, Closed, Atoms, sem, fact, GhostRules, Running, givenOf, tables, FmC, fmOf, Given, Goal, Item, ‵, raw, _⊛_, ⋆, later, await, _$_, _∵_}
-use Rattle.disjunctive.proofs.Walk.{ !, qed}
-use Rattle.disjunctive.proofs.Walk.{by, move, keep, drop, use0, use1, rewrite, split, pick, join, fsplit, fjoin, frame, done, Post, runs, Seq, Step, step, look-in, sub, agg, Opds, stop}
-use Rattle.disjunctive.proofs.Walk.{fld, from, load}
-use Rattle.disjunctive.proofs.Walk.{of-opd, addr, assigns, returns, enter, and-then, no-more, land, usize, yes, RattleType, owns, Is, shows, pointee, RefT, now, length, sliceTy, sliceVal}
-use Rattle.disjunctive.proofs.Walk.{plain, nothing}
-use Rattle.disjunctive.proofs.Walk.{heard, peeks, owned, only, says, calls-at, Ended, Clauses, Contract, Triple, entered, cited, DisjunctivePropagator, Range, earliests, latests}
+use Rattle.ranges.proofs.Prelude.{_≡_, refl, sym, ap, _∙_, subst, ℕ, zero, suc, _≤_, List, [], _∷_, Decided, URA, fullShare, Name, Ty, tyRef, tyInt, w64, imm, mut, local as place, copy, Body}
+use Rattle.ranges.proofs.Prelude.{Operand, seq, assign, call, Fn, Val, WT, hasTy, vptr, SProp, ent, sep, emp, id⊢, via, fst∗, ftrue, fsep, fat, flft, GName, Model, Routine, Names, Heap, Calls}
+use Rattle.ranges.proofs.Prelude.{Loops, Env, WpFn, Closed, Atoms, sem, fact, GhostRules, Running, givenOf, tables, FmC, fmOf, Given, Goal, Item, ‵, raw, _⊛_, ⋆, later, await, _$_, _∵_, !, qed, by}
+use Rattle.ranges.proofs.Prelude.{move, keep, drop, use0, use1, rewrite, split, pick, join, fsplit, fjoin, frame, done, PostOf as Post, runs, Seq, Step, step, look-in, sub, agg, Opds, stop, fld}
+use Rattle.ranges.proofs.Prelude.{from, load, of-opd, addr, assigns, returns, enter, and-then, no-more, land, usize, yes, RattleType, owns, Is, shows, pointee, RefT, now, length, sliceTy, sliceVal}
+use Rattle.ranges.proofs.Prelude.{plain, nothing, heard, peeks, owned, only, says, calls-at, Ended, Clauses, Contract, Triple, entered, cited}
+use Rattle.ranges.specs.declared.range.Range.{Range}
+use mathlib.Core.Option.{Option, some, none}
+use Rattle.records.specs.declared.record.DisjunctivePropagator.{DisjunctivePropagator}
+use Rattle.ranges.specs.Ranges.{earliests, latests}
 use mathlib.Core.Bool.{cond}
 use mathlib.Core.List.{_++_}
 use mathlib.Core.Logic.{_⊎_, inl, inr}

@@ -1,7 +1,7 @@
 -- A `&mut` slice that a function passes on: its MIR lends it again, from its own local through two more, of the pointer and of the slice.
-use Rattle.disjunctive.proofs.Walk.{_≡_, refl, ℕ, suc, List, [], _∷_, Option, some, none, Decided, URA, mut, Ty, tyRef, deref, place, copy, Body, seq, assign, Val, WT, hasTy, vptr, Heap}
-use Rattle.disjunctive.proofs.Walk.{Calls, Loops, Env, Atoms, Given, Item, ‵, _$_, Post, runs, Step, step, look-in, sub, agg, stop, hop, fld, load, addr, assigns, and-then, no-more, sliceTy}
-use Rattle.disjunctive.proofs.Walk.{sliceVal}
+use Rattle.ranges.proofs.Prelude.{_≡_, refl, ℕ, suc, List, [], _∷_, Decided, URA, mut, Ty, tyRef, deref, local as place, copy, Body, seq, assign, Val, WT, hasTy, vptr, Heap, Calls, Loops, Env}
+use Rattle.ranges.proofs.Prelude.{Atoms, Given, Item, ‵, _$_, PostOf as Post, runs, Step, step, look-in, sub, agg, stop, hop, fld, load, addr, assigns, and-then, no-more, sliceTy, sliceVal}
+use mathlib.Core.Option.{Option, some, none}
 use mir.Syntax.{Lifetime, erased, field, addrOf, aggregate}
 use Rattle.disjunctive.proofs.Locals.{Cell, cells, cellAt, store, stores, At, local-at, local-init, finds-local}
 

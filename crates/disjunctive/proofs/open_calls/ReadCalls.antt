@@ -37,8 +37,9 @@ use Rattle.busiest_stretch.specs.Stretches.{BusiestAnswered}
 use Rattle.busiest_stretch.proofs.Answers.{too-many as too-many-busiest}
 use Rattle.busiest_stretch.proofs.answer.Busiest as Busiest
 use Rattle.busiest_stretch.proofs.answer.Busiest.Laws as Busiest′
-use Rattle.disjunctive.proofs.Walk.{[], _∷_, i32, imm, length, mut, mut-slice-tells, mutSliceOf, named, none, now, plain, shr-slice-tells, shrSliceOf, slice-vals, sliceTy, some, tyInt}
-use Rattle.disjunctive.proofs.Walk.{tyRef, u8, usize, w32, w64, w8}
+use Rattle.ranges.proofs.Prelude.{[], _∷_, i32, imm, length, mut, mut-slice-tells, mutSliceOf, named, now, plain, shr-slice-tells, shrSliceOf, slice-vals, sliceTy, tyInt, tyRef, usize, w32, w64, w8}
+use mathlib.Core.Option.{none, some}
+use denote.Builtin.{u8}
 use Rattle.disjunctive.proofs.open_calls.ReadOnlyCalls.{Reading}
 use Rattle.disjunctive.proofs.open_calls.StartsReaders.{starts, starts-with-bars}
 

@@ -1,11 +1,16 @@
 -- An open call that leaves the record and the ranges unchanged: it reads the starts off the ranges, copies the record, passes both to its core, and returns the core's answer.
 -- One walk, over what is read, what else the core is passed, and what is said of an answer.
-use Rattle.disjunctive.proofs.Walk.{_≡_, sym, ap, _∙_, subst, ℕ, suc, _<_, _≤_, Bool, List, Option, Decided, ℤ, URA, Name, Ty, deref, place, copy, seq, assign, call, Fn, Val, WT, hasTy, vptr}
-use Rattle.disjunctive.proofs.Walk.{SProp, ent, sep, emp, id⊢, via, fst∗, ftrue, fsep, flft, Model, Routine, Names, Heap, Calls, Loops, WpFn, Closed, Atoms, sem, fact, factI, GhostRules}
-use Rattle.disjunctive.proofs.Walk.{Running, tables, FmC, fmOf, Given, Item, ‵, raw, _⊛_, ⋆, _$_, _∵_, !, qed, by, move, keep, drop, use0, use1, split, join, fsplit, fsplit3, fjoin, frame}
-use Rattle.disjunctive.proofs.Walk.{done, look-in, look, stop, hop, from, load, of-opd, assigns, returns, enter, and-then, no-more, land, yes, RattleType, owns, Is, pointee, ShrRef, ptr-vals}
-use Rattle.disjunctive.proofs.Walk.{shr-tells, nothing, owned, heard, Ended, Clauses, Contract, Triple, entered, cited, says, TASKS, DisjunctivePropagator, earliests, latests, firstEarliest}
-use Rattle.disjunctive.proofs.Walk.{firstLatest, Range, rangesVal, Reads, refl, [], _∷_, some, none, length, tyRef, named, imm, givenOf, now, sliceTy, slice-vals, shr-slice-tells, plain}
+use Rattle.ranges.proofs.Prelude.{_≡_, sym, ap, _∙_, subst, ℕ, suc, _<_, _≤_, Bool, List, Decided, ℤ, URA, Name, Ty, deref, local as place, copy, seq, assign, call, Fn, Val, WT, hasTy, vptr, SProp}
+use Rattle.ranges.proofs.Prelude.{ent, sep, emp, id⊢, via, fst∗, ftrue, fsep, flft, Model, Routine, Names, Heap, Calls, Loops, WpFn, Closed, Atoms, sem, fact, factI, GhostRules, Running, tables}
+use Rattle.ranges.proofs.Prelude.{FmC, fmOf, Given, Item, ‵, raw, _⊛_, ⋆, _$_, _∵_, !, qed, by, move, keep, drop, use0, use1, split, join, fsplit, fsplit3, fjoin, frame, done, look-in, look, stop}
+use Rattle.ranges.proofs.Prelude.{hop, from, load, of-opd, assigns, returns, enter, and-then, no-more, land, yes, RattleType, owns, Is, pointee, ShrRef, ptr-vals, shr-tells, nothing, owned, heard}
+use Rattle.ranges.proofs.Prelude.{Ended, Clauses, Contract, Triple, entered, cited, says, TASKS, refl, [], _∷_, length, tyRef, named, imm, givenOf, now, sliceTy, slice-vals, shr-slice-tells}
+use Rattle.ranges.proofs.Prelude.{plain}
+use Rattle.ranges.specs.declared.range.Range.{Range}
+use mathlib.Core.Option.{Option, some, none}
+use Rattle.records.specs.declared.record.DisjunctivePropagator.{DisjunctivePropagator}
+use Rattle.ranges.specs.Ranges.{earliests, latests}
+use Rattle.ranges.specs.TakenApart.{firstEarliest, firstLatest}
 use mathlib.Core.List.{_++_}
 use mir.Syntax.{rvOpd, return, valueLocal}
 use base.Logic.{ex, snd∗}
@@ -21,7 +26,7 @@ use denote.Struct.Laws as LL
 use denote.Triple.End.{all, Fins, Outs, outs, lastsOf}
 use Rattle.records.proofs.record.DisjunctivePropagator as P
 use Rattle.records.proofs.record.DisjunctivePropagator.Laws as P′
-use Rattle.ranges.proofs.starts.Lending.{calls-reader}
+use Rattle.ranges.proofs.starts.Lending.{calls-reader, rangesVal, Reads}
 use Rattle.ranges.proofs.range.Range as T
 use Rattle.ranges.proofs.Calls.{ContractOf, calls-by}
 use Rattle.disjunctive.proofs.Locals.{Cell, store, stores, passing, envOf, Blocks, fresh, locals, env-store, env-stores, env-passing, At, AllAt, copies, Fit, local-at, local-init, stored}

@@ -1,11 +1,15 @@
 -- The two functions that read the starts off lent ranges: `starts_of`, and `starts_with_bars`, which reads whether the bars fit too. What is said of the starts that were read is said of the ranges.
-use Rattle.disjunctive.proofs.Walk.{refl, _<_, _≤_, Bool, List, [], _∷_, Decided, ℤ, length, URA, Name, Ty, Val, WT, hasTy, Model, Routine, Heap, Atoms, GhostRules, Running, Given}
-use Rattle.disjunctive.proofs.Walk.{RattleType, Is, Triple, TASKS, earliests, latests, firstEarliest, firstLatest, Range, Starts, starts-of, starts-fit, Reads, TakenWithBars}
+use Rattle.ranges.proofs.Prelude.{refl, _<_, _≤_, Bool, List, [], _∷_, Decided, ℤ, length, URA, Name, Ty, Val, WT, hasTy, Model, Routine, Heap, Atoms, GhostRules, Running, Given, RattleType, Is}
+use Rattle.ranges.proofs.Prelude.{Triple, TASKS}
+use Rattle.ranges.specs.declared.range.Range.{Range}
+use Rattle.ranges.specs.declared.starts.Starts.{Starts}
+use Rattle.ranges.specs.Ranges.{earliests, latests}
+use Rattle.ranges.specs.TakenApart.{firstEarliest, firstLatest}
 use mathlib.Core.Bool.{true}
 use denote.Struct.Laws as LL
 use Rattle.ranges.specs.Bars.{allBarsFit}
-use Rattle.ranges.proofs.TakenApart.{bars-of, apart}
-use Rattle.ranges.proofs.starts.Lending.{Taken}
+use Rattle.ranges.proofs.TakenApart.{bars-of, apart, starts-of, starts-fit}
+use Rattle.ranges.proofs.starts.Lending.{Taken, Reads, TakenWithBars}
 use Rattle.ranges.proofs.starts.Starts as S
 use Rattle.ranges.proofs.starts.Starts.Laws as S′
 use Rattle.ranges.proofs.starts.StartsWithBars as B

@@ -1,11 +1,12 @@
 -- The open calls that store starts have one MIR up to the call of their core and one after it, but for the numbers of their locals.
 -- Before it, the ranges are taken apart into two local arrays, the record is copied, and the first numbers of the arrays are the slices that the core is passed; after it, what it left is stored.
 -- Local 1 is the reference to the record and local 2 the ranges. Those of a call follow its parameters: m is the first of them, and u the first after what the core is passed.
-use Rattle.disjunctive.proofs.Walk.{_≡_, refl, ap, _∙_, List, [], _∷_, ℕ, _≤_, Bool, ℤ, length, URA, fullShare, Ty, tyInt, tyRef, w64, w32, named, mut, imm, place, copy, deref, Operand, Name}
-use Rattle.disjunctive.proofs.Walk.{Body, seq, assign, call, Val, vptr, SProp, Lft, GName, Share, fat, flft, Memory, Routine, Fun, Heap, Calls, Loops, Env, Atoms, FmC, Given, Item, ‵, _$_}
-use Rattle.disjunctive.proofs.Walk.{_⊛_, ftrue, RefT, move, drop, rewrite, whole, sub, look-in, agg, look, init, forget, stop, hop, fld, load, of-opd, addr, assigns, and-then, no-more, land}
-use Rattle.disjunctive.proofs.Walk.{Post, runs, Seq, Is, pointee, nothing-lawful, i32, Room, finally, sliceTy, sliceVal, only, Triple, TASKS, DisjunctivePropagator, Range, rangesVal}
-use Rattle.disjunctive.proofs.Walk.{rangesAt, Reads, calls-reader-mut}
+use Rattle.ranges.proofs.Prelude.{_≡_, refl, ap, _∙_, List, [], _∷_, ℕ, _≤_, Bool, ℤ, length, URA, fullShare, Ty, tyInt, tyRef, w64, w32, named, mut, imm, local as place, copy, deref, Operand, Name}
+use Rattle.ranges.proofs.Prelude.{Body, seq, assign, call, Val, vptr, SProp, Lft, GName, Share, fat, flft, Memory, Routine, Fun, Heap, Calls, Loops, Env, Atoms, FmC, Given, Item, ‵, _$_, _⊛_, ftrue}
+use Rattle.ranges.proofs.Prelude.{RefT, move, drop, rewrite, whole, sub, look-in, agg, look, init, forget, stop, hop, fld, load, of-opd, addr, assigns, and-then, no-more, land, PostOf as Post, runs}
+use Rattle.ranges.proofs.Prelude.{Seq, Is, pointee, i32, Room, finally, sliceTy, sliceVal, only, Triple, TASKS}
+use Rattle.ranges.specs.declared.range.Range.{Range}
+use Rattle.records.specs.declared.record.DisjunctivePropagator.{DisjunctivePropagator}
 use Prim.Native.Nat.{_+_}
 use native.Mathlib.Omega.{arith}
 use lib.IntN.{pos}
@@ -18,7 +19,7 @@ use types.Part.{rep}
 use types.Run.{lit}
 use denote.Array.{array-typed}
 use denote.Builtin.{bool}
-use denote.Plain.{bool-lawful, uint-lawful}
+use denote.Plain.{bool-lawful, uint-lawful, nothing-lawful}
 use denote.Signed.{sint-lawful}
 use denote.Struct.Laws as LL
 use Rattle.records.proofs.record.DisjunctivePropagator as P
@@ -31,7 +32,7 @@ use Rattle.ranges.proofs.range.Range as T
 use Rattle.ranges.proofs.range.Range.Laws as T′
 use Rattle.ranges.proofs.bars.all_bars_fit.Symbol.{name as #all-bars}
 use Rattle.ranges.proofs.starts.take_apart.Symbol.{name as #take-apart}
-use Rattle.ranges.proofs.starts.Lending.{rangesObs, rangesBor}
+use Rattle.ranges.proofs.starts.Lending.{rangesObs, rangesBor, rangesVal, rangesAt, Reads, calls-reader-mut}
 use Rattle.ranges.proofs.starts.LentArrays.{Take, calls-take-mut}
 use Rattle.ranges.proofs.starts.ReadLoop.{within, found}
 use Rattle.ranges.proofs.starts.StoreCalls.{calls-store}

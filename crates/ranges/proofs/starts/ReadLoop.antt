@@ -119,8 +119,8 @@ module _ {M : Type 1} {𝓤 : URA M} {H : Heap 𝓤} (L : Loop 𝓤 H) where
   Copied i = Within i (mach (elem i)) (vint w64 (i * 80)) (vptr b (place 80 o i)) (vbool true) (L .entries i)
 
   -- where a turn ends that does not go on
-  abbrev pub Left : Tables 𝓤 H → Out → SProp 𝓤
-  Left 𝓣 = afterBlock 𝓤 H (afterSeq 𝓤 H (Wp 𝓤 H (𝓣 .C) (𝓣 .Λ) (L .locals) (L .rest) (atReturn 𝓤 H (L .locals) (L .Post))) (atReturn 𝓤 H (L .locals) (L .Post)))
+  abbrev pub AfterReads : Tables 𝓤 H → Out → SProp 𝓤
+  AfterReads 𝓣 = afterBlock 𝓤 H (afterSeq 𝓤 H (Wp 𝓤 H (𝓣 .C) (𝓣 .Λ) (L .locals) (L .rest) (atReturn 𝓤 H (L .locals) (L .Post))) (atReturn 𝓤 H (L .locals) (L .Post)))
 
 -- the place of a local
 module _ {M : Type 1} {𝓤 : URA M} {H : Heap 𝓤} {A : Atoms 𝓤} {K : Type 0} {W : Given 𝓤 H A} {Γ : List (Item 𝓤)} {E : Env 𝓤 H} where
@@ -132,7 +132,7 @@ module _ {M : Type 1} {𝓤 : URA M} {H : Heap 𝓤} {A : Atoms 𝓤} {K : Type 
 
 module _ {M : Type 1} (𝓤 : URA M) (H : Heap 𝓤) (A : Atoms 𝓤) (𝓣 : Tables 𝓤 H) (L : Loop 𝓤 H) where
   abbrev After : SProp 𝓤 → Out → SProp 𝓤
-  After X = afterTurn 𝓤 H X (Left L 𝓣)
+  After X = afterTurn 𝓤 H X (AfterReads L 𝓣)
 
   -- what the caller shows: what a turn does with the copy, and what is done after the loop
   abbrev pub Acts : Type 2
@@ -158,7 +158,7 @@ module _ {M : Type 1} (𝓤 : URA M) (H : Heap 𝓤) (A : Atoms 𝓤) (W : Given
   module _ (acts : Acts 𝓤 H A 𝓣 L) (ends : Ends 𝓤 H A 𝓣 L) where
     -- a turn: the test holds, and range i is copied out
     more : (i : ℕ) (X : SProp 𝓤) → i < L .n → L .Known i → (L .Known (suc i) → ent 𝓤 (⋆ 𝓤 H A (Before L (suc i))) X)
-        → Turn 𝓤 H A W 𝓣 (L .locals) (turned L) (Left L 𝓣) (L .n) (Before L) (L .Known) i X
+        → Turn 𝓤 H A W 𝓣 (L .locals) (turned L) (AfterReads L 𝓣) (L .n) (Before L) (L .Known) i X
     more i X small known k =
         qed W (Before L i) ∵ exec ! (𝓣 .C) (𝓣 .Λ) (L .locals) (turned L) (anyQ (After 𝓤 H A 𝓣 L X)) $
         assigns ! (bin ! (load ! (found ! (P .index-at)) (look ! 0 refl)) (load ! (found ! (P .count-at)) (look ! 5 refl)) tt) (found ! (P .test-at)) (init ! 4 refl (tt, tt)) $
@@ -190,7 +190,7 @@ module _ {M : Type 1} (𝓤 : URA M) (H : Heap 𝓤) (A : Atoms 𝓤) (W : Given
             (LL.lawful T.the-type T′.the-laws 𝓤 H A W .typed (elem L i) (mach (elem L i) ∷ []) ge .0)
 
     -- the turn that leaves the loop
-    leaves : (X : SProp 𝓤) → L .Known (L .n) → Turn 𝓤 H A W 𝓣 (L .locals) (turned L) (Left L 𝓣) (L .n) (Before L) (L .Known) (L .n) X
+    leaves : (X : SProp 𝓤) → L .Known (L .n) → Turn 𝓤 H A W 𝓣 (L .locals) (turned L) (AfterReads L 𝓣) (L .n) (Before L) (L .Known) (L .n) X
     unfolding afterTurn
     leaves X known =
         qed W (Before L (L .n)) ∵ exec ! (𝓣 .C) (𝓣 .Λ) (L .locals) (turned L) (anyQ (After 𝓤 H A 𝓣 L X)) $
@@ -199,4 +199,4 @@ module _ {M : Type 1} (𝓤 : URA M) (H : Heap 𝓤) (A : Atoms 𝓤) (W : Given
         leaves-loop ! (load ! (found ! (P .test-at)) (look ! 4 refl)) $ forget ! 4 refl $ by ! (ends known)
 
     pub reads-all : L .Known 0 → ent 𝓤 (⋆ 𝓤 H A (Before L 0)) (Wp 𝓤 H (𝓣 .C) (𝓣 .Λ) (L .locals) (looping L) (atReturn 𝓤 H (L .locals) (L .Post)))
-    reads-all known = counts 𝓤 H A W 𝓣 (L .locals) (turned L) (Left L 𝓣) (L .n) (Before L) (L .Known) more leaves known
+    reads-all known = counts 𝓤 H A W 𝓣 (L .locals) (turned L) (AfterReads L 𝓣) (L .n) (Before L) (L .Known) more leaves known

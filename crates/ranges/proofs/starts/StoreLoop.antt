@@ -193,8 +193,8 @@ module _ {M : Type 1} (𝓤 : URA M) (H : Heap 𝓤) (A : Atoms 𝓤) (W : Given
       Λ = 𝓣 .Λ
 
       -- where the turn ends that leaves the loop
-      abbrev Over : Out → SProp 𝓤
-      Over = afterBlock 𝓤 H (afterSeq 𝓤 H (Wp 𝓤 H C Λ En rest (atReturn 𝓤 H En Post)) (atReturn 𝓤 H En Post))
+      abbrev AfterStores : Out → SProp 𝓤
+      AfterStores = afterBlock 𝓤 H (afterSeq 𝓤 H (Wp 𝓤 H C Λ En rest (atReturn 𝓤 H En Post)) (atReturn 𝓤 H En Post))
 
       number : (z : ℤ) → Is i32 z (sint-vals w32 z) → Decided (hasTy (tyInt w32) (vint w32 (ofZ w32 z))) × WT (vint w32 (ofZ w32 z))
       number z is = sint-lawful 𝓤 H A W w32 .typed z (sint-vals w32 z) is .0
@@ -207,10 +207,10 @@ module _ {M : Type 1} (𝓤 : URA M) (H : Heap 𝓤) (A : Atoms 𝓤) (W : Given
 
       -- range i, with what is stored in it, goes back into its row, and the turn ends
       back : (i : ℕ) (X : SProp 𝓤) → i < n → Is T.the-row (new (old i) (moved i)) (mach (new (old i) (moved i)) ∷ []) → ent 𝓤 (⋆ 𝓤 H A (At (suc i))) X
-          → ent 𝓤 (⋆ 𝓤 H A (Out-of i (new (old i) (moved i)))) (Wp 𝓤 H C Λ En on (afterTurn 𝓤 H X Over))
+          → ent 𝓤 (⋆ 𝓤 H A (Out-of i (new (old i) (moved i)))) (Wp 𝓤 H C Λ En on (afterTurn 𝓤 H X AfterStores))
       unfolding afterTurn
       back i X small is k =
-          qed W (Out-of i (new (old i) (moved i))) ∵ exec ! C Λ En on (anyQ (afterTurn 𝓤 H X Over)) $
+          qed W (Out-of i (new (old i) (moved i))) ∵ exec ! C Λ En on (anyQ (afterTurn 𝓤 H X AfterStores)) $
           owned ! T.the-row (Is T.the-row) ((LL.makes T.the-type T′.the-plain) 𝓤 H A) (new (old i) (moved i)) _ is $ move ! (1 ∷ 0 ∷ []) $
           elem-put ! T.the-row fullShare (zs i) i (new (old i) (moved i)) (mach (new (old i) (moved i)) ∷ []) b o (here i small) $
           rewrite ! 0 (λ (us : List Range). ‵ (row T.the-row fullShare us b o)) (stored-more (F .stores) ys es i (omega arith) small) refl $
@@ -222,10 +222,10 @@ module _ {M : Type 1} (𝓤 : URA M) (H : Heap 𝓤) (A : Atoms 𝓤) (W : Given
           next = omega (arith, g .0)
 
       -- a turn that stores start i
-      more : (i : ℕ) (X : SProp 𝓤) → i < n → ent 𝓤 (⋆ 𝓤 H A (At (suc i))) X → Turn 𝓤 H A W 𝓣 En (turn f k) Over n At (λ _. Unit {0}) i X
+      more : (i : ℕ) (X : SProp 𝓤) → i < n → ent 𝓤 (⋆ 𝓤 H A (At (suc i))) X → Turn 𝓤 H A W 𝓣 En (turn f k) AfterStores n At (λ _. Unit {0}) i X
       unfolding afterTurn
       more i X small k′ =
-          qed W (At i) ∵ exec ! C Λ En (turn f k) (anyQ (afterTurn 𝓤 H X Over)) $
+          qed W (At i) ∵ exec ! C Λ En (turn f k) (anyQ (afterTurn 𝓤 H X AfterStores)) $
           assigns ! (bin ! (load ! (from ! (stop !)) (look ! 3 refl)) (load ! (from ! (stop !)) (look ! 16 refl)) tt) (from ! (stop !)) (init ! 4 refl (tt, tt)) $
           rewrite ! 4 (λ (t : Bool). ‵ (fat fullShare tyBool (l 5) 0 (vbool t))) (lt-ltb i n small) refl $
           stays ! (load ! (from ! (stop !)) (look ! 4 refl)) $
@@ -263,7 +263,7 @@ module _ {M : Type 1} (𝓤 : URA M) (H : Heap 𝓤) (A : Atoms 𝓤) (W : Given
           elem-out ! T.the-row (Is T.the-row) (shows 𝓤 H A T.the-row) (LL.vals T.the-type T′.the-laws) (LL.tells T.the-type T′.the-laws) fullShare (zs i) i anyRange b o
           (here i small) (λ _.
           -- [ranges[i]; what it owns; the others; the starts; …]
-          move ! (1 ∷ []) $ drop ! $ by ! (puts i (fits r v same is) (afterTurn 𝓤 H X Over) (back i X small (fits-new (old i) (moved i) gr (fits r v same is)) k′))))))))
+          move ! (1 ∷ []) $ drop ! $ by ! (puts i (fits r v same is) (afterTurn 𝓤 H X AfterStores) (back i X small (fits-new (old i) (moved i) gr (fits r v same is)) k′))))))))
         where
           fits : (r : ℤ) (v : Val) → r ≡ moved i → Is i32 r (v ∷ []) → Is i32 (moved i) (sint-vals w32 (moved i))
           fits r v same is = subst (λ (z : ℤ). Is i32 z (sint-vals w32 z)) same (subst (Is i32 r) (sint-tells w32 r (v ∷ []) is) is)
@@ -275,10 +275,10 @@ module _ {M : Type 1} (𝓤 : URA M) (H : Heap 𝓤) (A : Atoms 𝓤) (W : Given
           scaled80 = omega (arith, g .1)
 
       -- the turn that leaves the loop, and the rest of the body: the slice is closed
-      ends : (X : SProp 𝓤) → Turn 𝓤 H A W 𝓣 En (turn f k) Over n At (λ _. Unit {0}) n X
+      ends : (X : SProp 𝓤) → Turn 𝓤 H A W 𝓣 En (turn f k) AfterStores n At (λ _. Unit {0}) n X
       unfolding afterTurn
       ends X =
-          qed W (At n) ∵ exec ! C Λ En (turn f k) (anyQ (afterTurn 𝓤 H X Over)) $
+          qed W (At n) ∵ exec ! C Λ En (turn f k) (anyQ (afterTurn 𝓤 H X AfterStores)) $
           assigns ! (bin ! (load ! (from ! (stop !)) (look ! 3 refl)) (load ! (from ! (stop !)) (look ! 16 refl)) tt) (from ! (stop !)) (init ! 4 refl (tt, tt)) $
           rewrite ! 4 (λ (t : Bool). ‵ (fat fullShare tyBool (l 5) 0 (vbool t))) (le-ltb n n (omega arith)) refl $
           leaves-loop ! (load ! (from ! (stop !)) (look ! 4 refl)) $ exec ! C Λ En rest (atRet En Post) $
@@ -288,8 +288,8 @@ module _ {M : Type 1} (𝓤 : URA M) (H : Heap 𝓤) (A : Atoms 𝓤) (W : Given
           returns ! (look ! 19 refl) $ forget ! 5 refl $ forget ! 6 refl $ forget ! 16 refl $ forget ! 17 refl $ forget ! 18 refl $ forget ! 19 refl $
           keep ! (19 ∷ 16 ∷ 17 ∷ 18 ∷ 5 ∷ 6 ∷ 7 ∷ 8 ∷ 9 ∷ 10 ∷ 11 ∷ 12 ∷ 13 ∷ 14 ∷ 15 ∷ 21 ∷ 0 ∷ 1 ∷ 2 ∷ 4 ∷ []) $ frees-all ! En $ by ! exits
 
-      loops : ent 𝓤 (⋆ 𝓤 H A (At 0)) (Wp 𝓤 H C Λ En (loop (turn f k)) Over)
-      loops = counts 𝓤 H A W 𝓣 En (turn f k) Over n At (λ _. Unit {0}) (λ i X small _ k′. more i X small (k′ tt)) (λ X _. ends X) tt
+      loops : ent 𝓤 (⋆ 𝓤 H A (At 0)) (Wp 𝓤 H C Λ En (loop (turn f k)) AfterStores)
+      loops = counts 𝓤 H A W 𝓣 En (turn f k) AfterStores n At (λ _. Unit {0}) (λ i X small _ k′. more i X small (k′ tt)) (λ X _. ends X) tt
 
       pub walks-on : ent 𝓤 (⋆ 𝓤 H A Begun) (Wp 𝓤 H C Λ En (body f k) (atReturn 𝓤 H En Post))
       walks-on =

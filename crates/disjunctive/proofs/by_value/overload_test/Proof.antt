@@ -3,7 +3,8 @@ use mathlib.Core.Logic.{inr}
 use denote.Enum.Laws as L
 use Rattle.overload_test.proofs.Overload as O
 use Rattle.overload_test.proofs.Overload.Laws as O′
-use Rattle.disjunctive.proofs.Walk.{givenOf, refl, [], none}
+use Rattle.ranges.proofs.Prelude.{givenOf, refl, []}
+use mathlib.Core.Option.{none}
 use Rattle.disjunctive.proofs.open_calls.ReadCalls.{overload-test}
 use Rattle.disjunctive.proofs.open_calls.overload_test.Symbol as lent
 use Rattle.disjunctive.proofs.open_calls.overload_test.Met as lent-thm

@@ -7,8 +7,9 @@ use Rattle.promises.specs.RanLent.{RanLent}
 use Rattle.runs.proofs.outcome.Finished as F
 use Rattle.runs.proofs.outcome.Finished.Laws as F′
 use Rattle.disjunctive.specs.GivenRanges.{given, StoredIn}
-use Rattle.disjunctive.proofs.Walk.{DisjunctivePropagator, givenOf, refl, sym, ap, subst, [], _∷_, some, Val, w32, named, mut, tyInt, tyRef, i32, now, length, Is, plain, mutSliceOf}
-use Rattle.disjunctive.proofs.Walk.{sliceTy, slice-vals, mut-slice-tells, only}
+use Rattle.ranges.proofs.Prelude.{givenOf, refl, sym, ap, subst, [], _∷_, Val, w32, named, mut, tyInt, tyRef, i32, now, length, Is, plain, mutSliceOf, sliceTy, slice-vals, mut-slice-tells, only}
+use Rattle.records.specs.declared.record.DisjunctivePropagator.{DisjunctivePropagator}
+use mathlib.Core.Option.{some}
 use Rattle.disjunctive.proofs.open_calls.run.Symbol as lent
 use Rattle.disjunctive.proofs.open_calls.run.Met as lent-thm
 use Rattle.disjunctive.proofs.by_value.Ran as R

@@ -7,8 +7,8 @@ use Rattle.promises.specs.RanMirroredLent.{RanMirroredLent}
 use Rattle.runs.proofs.outcome.Outcome as F
 use Rattle.runs.proofs.outcome.Outcome.Laws as F′
 use Rattle.disjunctive.specs.GivenRanges.{StoredIn}
-use Rattle.disjunctive.proofs.Walk.{givenOf, refl, sym, ap, subst, [], _∷_, some, Val, w32, named, mut, tyInt, tyRef, i32, now, length, Is, plain, mutSliceOf, sliceTy, slice-vals}
-use Rattle.disjunctive.proofs.Walk.{mut-slice-tells, only}
+use Rattle.ranges.proofs.Prelude.{givenOf, refl, sym, ap, subst, [], _∷_, Val, w32, named, mut, tyInt, tyRef, i32, now, length, Is, plain, mutSliceOf, sliceTy, slice-vals, mut-slice-tells, only}
+use mathlib.Core.Option.{some}
 use Rattle.disjunctive.proofs.open_calls.run_mirrored.Symbol as lent
 use Rattle.disjunctive.proofs.open_calls.run_mirrored.Met as lent-thm
 use Rattle.disjunctive.proofs.by_value.RanMirrored as R

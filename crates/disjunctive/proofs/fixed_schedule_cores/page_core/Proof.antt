@@ -1,27 +1,15 @@
 -- What `page` ensures of the first `count` places of the arrays.
-use mathlib.Core.Path.{sym}
-use lib.Seq.{length-take-le}
-use native.Mathlib.Omega.{arith}
 use borrow.Author.Needs.{needs}
-use Rattle.disjunctive.proofs.AllPlaces.{all-earliest, all-latest}
+use Rattle.disjunctive.proofs.AllPlaces.{earliest-there, earliest-lent, latest-there, latest-lent}
 use Rattle.disjunctive.proofs.fixed_schedule_cores.page_core.Statement.{statement}
 use Rattle.disjunctive.proofs.fixed_schedule_cores.page_core.Tie as tie
-
-array-share-prefix-earliest : tie.Need-array-share-prefix-earliest
-array-share-prefix-earliest c = let p = c .before .before .before in omega (arith, all-earliest (p .args .starts) (p .good .1 .0))
-
-slice-aggregate-page : tie.Need-slice-aggregate-page
-slice-aggregate-page c = let p = c .before .before .before .before in sym (length-take-le _ _ (omega (arith, all-earliest (p .args .starts) (p .good .1 .0))))
-
-array-share-prefix-latest : tie.Need-array-share-prefix-latest
-array-share-prefix-latest c = let p = c .before .before .before .before in omega (arith, all-latest (p .args .starts) (p .good .1 .0))
-
-slice-aggregate-page-2 : tie.Need-slice-aggregate-page-2
-slice-aggregate-page-2 c = let p = c .before .before .before .before .before in sym (length-take-le _ _ (omega (arith, all-latest (p .args .starts) (p .good .1 .0))))
 
 pub page-core-spec : {M : Type 1} → statement M
 page-core-spec =
     tie.close
     (tie.spec
-    array-share-prefix-earliest slice-aggregate-page array-share-prefix-latest slice-aggregate-page-2
+    (λ c. let p = c .before .before .before in earliest-there (p .args .starts) (p .good .1 .0) (p .pre))
+    (λ c. let p = c .before .before .before .before in earliest-lent (p .args .starts) (p .good .1 .0) (p .pre))
+    (λ c. let p = c .before .before .before .before in latest-there (p .args .starts) (p .good .1 .0) (p .pre))
+    (λ c. let p = c .before .before .before .before .before in latest-lent (p .args .starts) (p .good .1 .0) (p .pre))
     (λ c κs. search needs) (λ c. search needs) (λ c. search needs))

@@ -4,7 +4,7 @@ use Rattle.overload_test.proofs.Overload as O
 use Rattle.overload_test.proofs.Overload.Laws as O′
 use Rattle.disjunctive.proofs.cores.overload_core.Symbol as core
 use Rattle.disjunctive.proofs.cores.overload_core.Met as core-thm
-use Rattle.disjunctive.proofs.Walk.{givenOf, refl}
+use Rattle.ranges.proofs.Prelude.{givenOf, refl}
 use Rattle.disjunctive.proofs.open_calls.ReadCalls.{overload-test}
 use Rattle.disjunctive.proofs.open_calls.ReadOnlyCalls.{reads-only}
 use Rattle.disjunctive.proofs.open_calls.overload_test.Key.{name}

@@ -1,10 +1,14 @@
 -- The record is copied for `propagate_mirrored`, and unchanged. The posts and the atoms are passed on for good. What the core leaves of the latest starts is stored.
-use Rattle.disjunctive.proofs.Walk.{_≡_, refl, List, [], _∷_, ℕ, ℤ, length, URA, fullShare, tyRef, named, imm, mut, Ty, Val, vptr, SProp, ent, id⊢, via, emp, fst∗, Lft, GName, Share, flft}
-use Rattle.disjunctive.proofs.Walk.{Memory, Routine, Heap, Calls, Loops, WpFn, Atoms, Fun, givenOf, tables, FmC, Given, Item, ‵, raw, _⊛_, ⋆, _$_, _∵_, !, qed, by, move, keep, drop, use1}
-use Rattle.disjunctive.proofs.Walk.{split, join, fsplit, fsplit3, fjoin, feqL, suffices, frame, done, look, init, forget, stop, from, load, of-opd, assigns, returns, enter, params1, pass1}
-use Rattle.disjunctive.proofs.Walk.{pass0, and-then, no-more, land, owns, Is, pointee, RefT, Room, slice-vals, mut-slice-tells, MutSlice, sliceVal, finally, plain, nothing, owned, heard}
-use Rattle.disjunctive.proofs.Walk.{Contract, Triple, Vals, onEntry, cited, says, Stays, gave-slice, walkOf, ends-at, walked, goes-gave-slice, DisjunctivePropagator, Range, rangesVal}
-use Rattle.disjunctive.proofs.Walk.{rangesAt, Reads, ptr-vals, i32, now, whole, sub, look-in, agg, hop, fld, addr, ShrRef, shr-tells, shrRefTo, stay-dropped, goes-dropped, yes}
+use Rattle.ranges.proofs.Prelude.{_≡_, refl, List, [], _∷_, ℕ, ℤ, length, URA, fullShare, tyRef, named, imm, mut, Ty, Val, vptr, SProp, ent, id⊢, via, emp, fst∗, Lft, GName, Share, flft, Memory}
+use Rattle.ranges.proofs.Prelude.{Routine, Heap, Calls, Loops, WpFn, Atoms, Fun, givenOf, tables, FmC, Given, Item, ‵, raw, _⊛_, ⋆, _$_, _∵_, !, qed, by, move, keep, drop, use1, split, join, fsplit}
+use Rattle.ranges.proofs.Prelude.{fsplit3, fjoin, feqL, suffices, frame, done, look, init, forget, stop, from, load, of-opd, assigns, returns, enter, params1, pass1, pass0, and-then, no-more, land}
+use Rattle.ranges.proofs.Prelude.{owns, Is, pointee, RefT, Room, slice-vals, mut-slice-tells, MutSlice, sliceVal, finally, plain, nothing, owned, heard, Contract, Triple, Vals, onEntry, cited, says}
+use Rattle.ranges.proofs.Prelude.{Stays, gave-slice, walkOf, ends-at, walked, goes-gave-slice, ptr-vals, i32, now, whole, sub, look-in, agg, hop, fld, addr, ShrRef, shr-tells, stay-dropped}
+use Rattle.ranges.proofs.Prelude.{goes-dropped, yes}
+use Rattle.ranges.specs.declared.range.Range.{Range}
+use Rattle.records.specs.declared.record.DisjunctivePropagator.{DisjunctivePropagator}
+use Rattle.ranges.proofs.starts.Lending.{rangesVal, rangesAt, Reads}
+use denote.Signature.{shrRefTo}
 use lib.ListN.{take}
 use mir.Val.{vbool}
 use denote.Builtin.{bool}

@@ -1,30 +1,15 @@
 -- What `precedence_bound` ensures of the first `count` places of the arrays.
-use mathlib.Core.Path.{sym}
-use lib.Seq.{length-take-le}
-use native.Mathlib.Omega.{arith}
 use borrow.Author.Needs.{needs}
-use Rattle.disjunctive.proofs.AllPlaces.{each-earliest, each-latest}
+use Rattle.disjunctive.proofs.AllPlaces.{earliest-there, earliest-lent, latest-there, latest-lent, of-bars}
 use Rattle.disjunctive.proofs.precedence_cores.bound_core.Statement.{statement}
 use Rattle.disjunctive.proofs.precedence_cores.bound_core.Tie as tie
-
-array-share-prefix-earliest : tie.Need-array-share-prefix-earliest
-array-share-prefix-earliest c = let p = c .before .before .before in omega (arith, each-earliest (p .args .ranges) (p .good .1 .0))
-
-slice-aggregate-precedence-bound : tie.Need-slice-aggregate-precedence-bound
-slice-aggregate-precedence-bound c = let p = c .before .before .before .before in sym (length-take-le _ _ (omega (arith, each-earliest (p .args .ranges) (p .good .1 .0))))
-
-array-share-prefix-latest : tie.Need-array-share-prefix-latest
-array-share-prefix-latest c = let p = c .before .before .before .before in omega (arith, each-latest (p .args .ranges) (p .good .1 .0))
-
-slice-aggregate-precedence-bound-2 : tie.Need-slice-aggregate-precedence-bound-2
-slice-aggregate-precedence-bound-2 c = let p = c .before .before .before .before .before in sym (length-take-le _ _ (omega (arith, each-latest (p .args .ranges) (p .good .1 .0))))
-
-returns : tie.Need-returns
-returns c = search needs
 
 pub bound-core-spec : {M : Type 1} → statement M
 bound-core-spec =
     tie.close
     (tie.spec
-    array-share-prefix-earliest slice-aggregate-precedence-bound array-share-prefix-latest
-    slice-aggregate-precedence-bound-2 (λ c κs. search needs) returns)
+    (λ c. let p = c .before .before .before in earliest-there (p .args .ranges .starts) (of-bars (p .args .ranges) (p .good .1 .0)) (p .pre))
+    (λ c. let p = c .before .before .before .before in earliest-lent (p .args .ranges .starts) (of-bars (p .args .ranges) (p .good .1 .0)) (p .pre))
+    (λ c. let p = c .before .before .before .before in latest-there (p .args .ranges .starts) (of-bars (p .args .ranges) (p .good .1 .0)) (p .pre))
+    (λ c. let p = c .before .before .before .before .before in latest-lent (p .args .ranges .starts) (of-bars (p .args .ranges) (p .good .1 .0)) (p .pre))
+    (λ c κs. search needs) (λ c. search needs))

@@ -14,7 +14,7 @@ use Rattle.ranges.proofs.LocalCells.{all-die, rooms, frees-all}
 use Rattle.ranges.proofs.ValueCalls.{Computes, calls-computing}
 use Rattle.ranges.proofs.starts.Lending.{Reads}
 use Rattle.ranges.proofs.starts.ReaderWalk.{slice, Exits, Begun, Shown, meets}
-use Rattle.ranges.proofs.starts.ReadLoop.{Loop, Typed, past-copy, Before, Copied, Left, Acts, Ends, goes-on, reads-all}
+use Rattle.ranges.proofs.starts.ReadLoop.{Loop, Typed, past-copy, Before, Copied, AfterReads, Acts, Ends, goes-on, reads-all}
 use Rattle.ranges.proofs.range.Range as T
 use Rattle.ranges.proofs.range.Range.Laws as T′
 use Rattle.ranges.proofs.bars.bars_fit.Symbol as bars-fit-def
@@ -95,7 +95,7 @@ module _ {M : Type 1} (𝓤 : URA M) (H : Heap 𝓤) (A : Atoms 𝓤) (W : Given
     acts : Acts 𝓤 H A 𝓣 L
     unfolding afterTurn
     acts i X small same ge k =
-        qed W (Copied L i) ∵ exec ! (𝓣 .C) (𝓣 .Λ) En (L .turn) (anyQ (afterTurn 𝓤 H X (Left L 𝓣))) $
+        qed W (Copied L i) ∵ exec ! (𝓣 .C) (𝓣 .Λ) En (L .turn) (anyQ (afterTurn 𝓤 H X (AfterReads L 𝓣))) $
         owned ! T.the-row (Is T.the-row) ((LL.makes T.the-type T′.the-plain) 𝓤 H A) elem _ ge $
         calls-computing ! (fmOf 𝓤 H (W .laws) 𝓣) T.the-row bool Fit known elem (and-then ! (load ! (from ! (stop !)) (look ! 2 refl)) (no-more !)) (λ w r e is.
         land ! (from ! (stop !)) (store ! 4 refl (bool-lawful 𝓤 H A W .typed r _ is .0)) $

@@ -23,7 +23,7 @@ use Rattle.ranges.proofs.LocalRows.{Numbers, numbers, opens-row, closes
 use Rattle.ranges.proofs.ValueCalls.{Computes, calls-computing}
 use Rattle.ranges.proofs.starts.Lending.{mach, rangesVal}
 use Rattle.ranges.proofs.starts.ReaderWalk.{slice}
-use Rattle.ranges.proofs.starts.ReadLoop.{Loop, Typed, past-copy, Before, Copied, Left, Acts, Ends, goes-on, reads-all}
+use Rattle.ranges.proofs.starts.ReadLoop.{Loop, Typed, past-copy, Before, Copied, AfterReads, Acts, Ends, goes-on, reads-all}
 use Rattle.ranges.proofs.range.Range as T
 use Rattle.ranges.proofs.range.Range.Laws as T′
 use Rattle.ranges.proofs.starts.fitting.Symbol as fitting-def
@@ -110,7 +110,7 @@ module _ {M : Type 1} (𝓤 : URA M) (H : Heap 𝓤) (A : Atoms 𝓤) (W : Given
       -- what a turn does with the copy of range i
       acts : Acts 𝓤 H A 𝓣 L
       acts i X small _ ge k =
-          qed W (Copied L i) ∵ exec ! (𝓣 .C) (𝓣 .Λ) En (L .turn) (anyQ (afterTurn 𝓤 H X (Left L 𝓣))) $
+          qed W (Copied L i) ∵ exec ! (𝓣 .C) (𝓣 .Λ) En (L .turn) (anyQ (afterTurn 𝓤 H X (AfterReads L 𝓣))) $
           -- [index; copied; scaled; pointer; test; count; the slice; the token; the borrow; earliest; latest; _2; _3; _0; _6; _7; _12; _13; _14; _15; all die; …]
           assigns ! (of-opd ! (load ! (from ! (stop !)) (look ! 1 refl))) (from ! (stop !)) (init ! 14 refl (LL.lawful T.the-type T′.the-laws 𝓤 H A W .typed elem (mach elem ∷ []) ge .0)) $
           assigns ! (bin ! (load ! (from ! (stop !)) (look ! 0 refl)) (lit ! tt) (record { fits = scaled4 })) (from ! (stop !)) (store ! 2 refl (tt, record { fits = scaled4 })) $

@@ -3,7 +3,8 @@ use mathlib.Core.Logic.{inl, inr}
 use denote.Enum.Laws as L
 use Rattle.precedences.proofs.reason.BoundAbove as O
 use Rattle.precedences.proofs.reason.BoundAbove.Laws as O′
-use Rattle.disjunctive.proofs.Walk.{givenOf, refl, [], _∷_, none, w64, tyInt}
+use Rattle.ranges.proofs.Prelude.{givenOf, refl, [], _∷_, w64, tyInt}
+use mathlib.Core.Option.{none}
 use Rattle.disjunctive.proofs.open_calls.ReadCalls.{precedence-bound}
 use Rattle.disjunctive.proofs.open_calls.by_precedence.precedence_bound.Symbol as lent
 use Rattle.disjunctive.proofs.open_calls.by_precedence.precedence_bound.Met as lent-thm

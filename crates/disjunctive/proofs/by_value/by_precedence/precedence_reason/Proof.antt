@@ -3,7 +3,8 @@ use mathlib.Core.Logic.{inl, inr}
 use denote.Enum.Laws as L
 use Rattle.precedences.proofs.reason.Reason as O
 use Rattle.precedences.proofs.reason.Reason.Laws as O′
-use Rattle.disjunctive.proofs.Walk.{givenOf, refl, [], _∷_, some, w32, w64, named, mut, tyInt, tyRef, sliceTy}
+use Rattle.ranges.proofs.Prelude.{givenOf, refl, [], _∷_, w32, w64, named, mut, tyInt, tyRef, sliceTy}
+use mathlib.Core.Option.{some}
 use Rattle.disjunctive.proofs.open_calls.ReadCalls.{precedence-reason}
 use Rattle.disjunctive.proofs.open_calls.by_precedence.precedence_reason.Symbol as lent
 use Rattle.disjunctive.proofs.open_calls.by_precedence.precedence_reason.Met as lent-thm

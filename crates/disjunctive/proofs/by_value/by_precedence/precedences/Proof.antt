@@ -7,7 +7,8 @@ use Rattle.promises.specs.PrecedencesLent.{PrecedencesLent}
 use Rattle.precedences.proofs.answers.Precedences as F
 use Rattle.precedences.proofs.answers.Precedences.Laws as F′
 use Rattle.disjunctive.specs.GivenRanges.{StoredIn}
-use Rattle.disjunctive.proofs.Walk.{givenOf, refl, sym, ap, subst, [], _∷_, none, Val, Is, only}
+use Rattle.ranges.proofs.Prelude.{givenOf, refl, sym, ap, subst, [], _∷_, Val, Is, only}
+use mathlib.Core.Option.{none}
 use Rattle.disjunctive.proofs.open_calls.by_precedence.precedences.Symbol as lent
 use Rattle.disjunctive.proofs.open_calls.by_precedence.precedences.Met as lent-thm
 use Rattle.disjunctive.proofs.by_value.by_precedence.RanPrecedences as R

@@ -3,7 +3,8 @@ use mathlib.Core.Logic.{inr}
 use denote.Struct.Laws as L
 use Rattle.conflicts.proofs.answer.Conflict as O
 use Rattle.conflicts.proofs.answer.Conflict.Laws as O′
-use Rattle.disjunctive.proofs.Walk.{givenOf, refl, [], none}
+use Rattle.ranges.proofs.Prelude.{givenOf, refl, []}
+use mathlib.Core.Option.{none}
 use Rattle.disjunctive.proofs.open_calls.ReadCalls.{conflict}
 use Rattle.disjunctive.proofs.open_calls.of_conflicts.conflict.Symbol as lent
 use Rattle.disjunctive.proofs.open_calls.of_conflicts.conflict.Met as lent-thm

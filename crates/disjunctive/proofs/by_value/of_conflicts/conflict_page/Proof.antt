@@ -3,7 +3,8 @@ use mathlib.Core.Logic.{inr}
 use denote.Enum.Laws as L
 use Rattle.conflict_pages.proofs.answer.ConflictPage as O
 use Rattle.conflict_pages.proofs.answer.ConflictPage.Laws as O′
-use Rattle.disjunctive.proofs.Walk.{givenOf, refl, [], _∷_, some, w8, named, mut, tyInt, tyRef, sliceTy}
+use Rattle.ranges.proofs.Prelude.{givenOf, refl, [], _∷_, w8, named, mut, tyInt, tyRef, sliceTy}
+use mathlib.Core.Option.{some}
 use Rattle.disjunctive.proofs.open_calls.ReadCalls.{conflict-page}
 use Rattle.disjunctive.proofs.open_calls.of_conflicts.conflict_page.Symbol as lent
 use Rattle.disjunctive.proofs.open_calls.of_conflicts.conflict_page.Met as lent-thm

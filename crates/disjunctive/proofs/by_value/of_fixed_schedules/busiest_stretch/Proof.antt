@@ -4,7 +4,8 @@ use mathlib.Core.Logic.{inl, inr}
 use denote.Enum.Laws as L
 use Rattle.busiest_stretch.proofs.answer.Busiest as O
 use Rattle.busiest_stretch.proofs.answer.Busiest.Laws as O′
-use Rattle.disjunctive.proofs.Walk.{givenOf, refl, [], _∷_, none, w32, tyInt}
+use Rattle.ranges.proofs.Prelude.{givenOf, refl, [], _∷_, w32, tyInt}
+use mathlib.Core.Option.{none}
 use Rattle.disjunctive.proofs.open_calls.ReadCalls.{busiest-stretch}
 use Rattle.disjunctive.proofs.open_calls.of_fixed_schedules.busiest_stretch.Symbol as lent
 use Rattle.disjunctive.proofs.open_calls.of_fixed_schedules.busiest_stretch.Met as lent-thm

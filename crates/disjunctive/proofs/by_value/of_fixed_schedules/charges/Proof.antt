@@ -3,7 +3,8 @@ use mathlib.Core.Logic.{inl, inr}
 use denote.Struct.Laws as L
 use Rattle.charges.proofs.answer.Charges as O
 use Rattle.charges.proofs.answer.Charges.Laws as O′
-use Rattle.disjunctive.proofs.Walk.{givenOf, refl, [], _∷_, none, w32, named, imm, tyInt, tyRef, sliceTy}
+use Rattle.ranges.proofs.Prelude.{givenOf, refl, [], _∷_, w32, named, imm, tyInt, tyRef, sliceTy}
+use mathlib.Core.Option.{none}
 use Rattle.disjunctive.proofs.open_calls.ReadCalls.{charges}
 use Rattle.disjunctive.proofs.open_calls.of_fixed_schedules.charges.Symbol as lent
 use Rattle.disjunctive.proofs.open_calls.of_fixed_schedules.charges.Met as lent-thm

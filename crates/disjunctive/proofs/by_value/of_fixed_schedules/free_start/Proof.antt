@@ -4,7 +4,8 @@ use mathlib.Core.Logic.{inl, inr}
 use denote.Enum.Laws as L
 use Rattle.free_starts.proofs.FreeStart as O
 use Rattle.free_starts.proofs.FreeStart.Laws as O′
-use Rattle.disjunctive.proofs.Walk.{givenOf, refl, [], _∷_, none, w32, tyInt}
+use Rattle.ranges.proofs.Prelude.{givenOf, refl, [], _∷_, w32, tyInt}
+use mathlib.Core.Option.{none}
 use Rattle.disjunctive.proofs.open_calls.ReadCalls.{free-start}
 use Rattle.disjunctive.proofs.open_calls.of_fixed_schedules.free_start.Symbol as lent
 use Rattle.disjunctive.proofs.open_calls.of_fixed_schedules.free_start.Met as lent-thm

@@ -3,7 +3,8 @@ use mathlib.Core.Logic.{inr}
 use denote.Enum.Laws as L
 use Rattle.pages.proofs.answer.Page as O
 use Rattle.pages.proofs.answer.Page.Laws as O′
-use Rattle.disjunctive.proofs.Walk.{givenOf, refl, [], _∷_, some, w8, named, mut, tyInt, tyRef, sliceTy}
+use Rattle.ranges.proofs.Prelude.{givenOf, refl, [], _∷_, w8, named, mut, tyInt, tyRef, sliceTy}
+use mathlib.Core.Option.{some}
 use Rattle.disjunctive.proofs.open_calls.ReadCalls.{page}
 use Rattle.disjunctive.proofs.open_calls.of_fixed_schedules.page.Symbol as lent
 use Rattle.disjunctive.proofs.open_calls.of_fixed_schedules.page.Met as lent-thm

@@ -4,7 +4,7 @@ use Rattle.precedences.proofs.reason.BoundAbove as O
 use Rattle.precedences.proofs.reason.BoundAbove.Laws as O′
 use Rattle.disjunctive.proofs.precedence_cores.bound_core.Symbol as core
 use Rattle.disjunctive.proofs.precedence_cores.bound_core.Met as core-thm
-use Rattle.disjunctive.proofs.Walk.{givenOf, refl}
+use Rattle.ranges.proofs.Prelude.{givenOf, refl}
 use Rattle.disjunctive.proofs.open_calls.ReadCalls.{precedence-bound}
 use Rattle.disjunctive.proofs.open_calls.ReadOnlyCalls.{reads-only}
 use Rattle.disjunctive.proofs.open_calls.by_precedence.precedence_bound.Key.{name}

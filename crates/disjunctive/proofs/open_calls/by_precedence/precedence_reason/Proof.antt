@@ -4,7 +4,7 @@ use Rattle.precedences.proofs.reason.Reason as O
 use Rattle.precedences.proofs.reason.Reason.Laws as O′
 use Rattle.disjunctive.proofs.precedence_cores.reason_core.Symbol as core
 use Rattle.disjunctive.proofs.precedence_cores.reason_core.Met as core-thm
-use Rattle.disjunctive.proofs.Walk.{givenOf, refl, named}
+use Rattle.ranges.proofs.Prelude.{givenOf, refl, named}
 use Rattle.disjunctive.proofs.open_calls.ReadCalls.{precedence-reason}
 use Rattle.disjunctive.proofs.open_calls.ReadOnlyCalls.{reads-only}
 use Rattle.disjunctive.proofs.open_calls.by_precedence.precedence_reason.Key.{name}

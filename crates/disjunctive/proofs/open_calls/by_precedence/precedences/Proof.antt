@@ -1,10 +1,13 @@
 -- The record is copied for `precedences`, and unchanged. What the core leaves of the earliest starts is stored.
-use Rattle.disjunctive.proofs.Walk.{_≡_, refl, List, [], _∷_, ℕ, ℤ, length, URA, fullShare, tyRef, named, imm, mut, Ty, Val, vptr, SProp, ent, id⊢, via, emp, fst∗, Lft, GName, Share, ftrue}
-use Rattle.disjunctive.proofs.Walk.{flft, Memory, Routine, Heap, Calls, Loops, WpFn, Atoms, Fun, givenOf, tables, FmC, Given, Item, ‵, raw, _⊛_, ⋆, _$_, _∵_, !, qed, by, move, keep, drop}
-use Rattle.disjunctive.proofs.Walk.{use1, split, join, fsplit, fsplit3, fjoin, feqL, suffices, frame, done, look, init, forget, stop, from, load, of-opd, assigns, returns, enter, params1}
-use Rattle.disjunctive.proofs.Walk.{pass1, pass0, and-then, no-more, land, owns, Is, pointee, RefT, Room, slice-vals, mut-slice-tells, MutSlice, sliceVal, finally, plain, nothing, owned}
-use Rattle.disjunctive.proofs.Walk.{heard, Contract, Triple, Vals, onEntry, cited, says, Stays, gave-slice, walkOf, ends-at, walked, goes-gave-slice, DisjunctivePropagator, Range, rangesVal}
-use Rattle.disjunctive.proofs.Walk.{rangesAt, Reads, ptr-vals, ShrRef, shr-tells, shrRefTo, stay-dropped, goes-dropped, yes}
+use Rattle.ranges.proofs.Prelude.{_≡_, refl, List, [], _∷_, ℕ, ℤ, length, URA, fullShare, tyRef, named, imm, mut, Ty, Val, vptr, SProp, ent, id⊢, via, emp, fst∗, Lft, GName, Share, ftrue, flft}
+use Rattle.ranges.proofs.Prelude.{Memory, Routine, Heap, Calls, Loops, WpFn, Atoms, Fun, givenOf, tables, FmC, Given, Item, ‵, raw, _⊛_, ⋆, _$_, _∵_, !, qed, by, move, keep, drop, use1, split, join}
+use Rattle.ranges.proofs.Prelude.{fsplit, fsplit3, fjoin, feqL, suffices, frame, done, look, init, forget, stop, from, load, of-opd, assigns, returns, enter, params1, pass1, pass0, and-then}
+use Rattle.ranges.proofs.Prelude.{no-more, land, owns, Is, pointee, RefT, Room, slice-vals, mut-slice-tells, MutSlice, sliceVal, finally, plain, nothing, owned, heard, Contract, Triple, Vals}
+use Rattle.ranges.proofs.Prelude.{onEntry, cited, says, Stays, gave-slice, walkOf, ends-at, walked, goes-gave-slice, ptr-vals, ShrRef, shr-tells, stay-dropped, goes-dropped, yes}
+use Rattle.ranges.specs.declared.range.Range.{Range}
+use Rattle.records.specs.declared.record.DisjunctivePropagator.{DisjunctivePropagator}
+use Rattle.ranges.proofs.starts.Lending.{rangesVal, rangesAt, Reads}
+use denote.Signature.{shrRefTo}
 use lib.ListN.{take}
 use mir.Val.{vbool}
 use denote.Builtin.{bool}

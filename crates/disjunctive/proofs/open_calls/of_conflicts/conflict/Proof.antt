@@ -4,7 +4,7 @@ use Rattle.conflicts.proofs.answer.Conflict as O
 use Rattle.conflicts.proofs.answer.Conflict.Laws as O′
 use Rattle.disjunctive.proofs.conflict_cores.conflict_core.Symbol as core
 use Rattle.disjunctive.proofs.conflict_cores.conflict_core.Met as core-thm
-use Rattle.disjunctive.proofs.Walk.{givenOf, refl}
+use Rattle.ranges.proofs.Prelude.{givenOf, refl}
 use Rattle.disjunctive.proofs.open_calls.ReadCalls.{conflict}
 use Rattle.disjunctive.proofs.open_calls.ReadOnlyCalls.{reads-only}
 use Rattle.disjunctive.proofs.open_calls.of_conflicts.conflict.Key.{name}

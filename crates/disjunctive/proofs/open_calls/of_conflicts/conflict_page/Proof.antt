@@ -4,7 +4,7 @@ use Rattle.conflict_pages.proofs.answer.ConflictPage as O
 use Rattle.conflict_pages.proofs.answer.ConflictPage.Laws as O′
 use Rattle.disjunctive.proofs.conflict_cores.conflict_page_core.Symbol as core
 use Rattle.disjunctive.proofs.conflict_cores.conflict_page_core.Met as core-thm
-use Rattle.disjunctive.proofs.Walk.{givenOf, refl, named}
+use Rattle.ranges.proofs.Prelude.{givenOf, refl, named}
 use Rattle.disjunctive.proofs.open_calls.ReadCalls.{conflict-page}
 use Rattle.disjunctive.proofs.open_calls.ReadOnlyCalls.{reads-only}
 use Rattle.disjunctive.proofs.open_calls.of_conflicts.conflict_page.Key.{name}

@@ -5,7 +5,7 @@ use Rattle.busiest_stretch.proofs.answer.Busiest as O
 use Rattle.busiest_stretch.proofs.answer.Busiest.Laws as O′
 use Rattle.disjunctive.proofs.fixed_schedule_cores.stretch_core.Symbol as core
 use Rattle.disjunctive.proofs.fixed_schedule_cores.stretch_core.Met as core-thm
-use Rattle.disjunctive.proofs.Walk.{givenOf, refl, w32}
+use Rattle.ranges.proofs.Prelude.{givenOf, refl, w32}
 use Rattle.disjunctive.proofs.open_calls.ReadCalls.{busiest-stretch}
 use Rattle.disjunctive.proofs.open_calls.ReadOnlyCalls.{reads-only}
 use Rattle.disjunctive.proofs.open_calls.of_fixed_schedules.busiest_stretch.Key.{name}

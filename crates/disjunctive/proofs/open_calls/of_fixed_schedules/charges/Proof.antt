@@ -4,7 +4,7 @@ use Rattle.charges.proofs.answer.Charges as O
 use Rattle.charges.proofs.answer.Charges.Laws as O′
 use Rattle.disjunctive.proofs.fixed_schedule_cores.charges_core.Symbol as core
 use Rattle.disjunctive.proofs.fixed_schedule_cores.charges_core.Met as core-thm
-use Rattle.disjunctive.proofs.Walk.{givenOf, refl}
+use Rattle.ranges.proofs.Prelude.{givenOf, refl}
 use Rattle.disjunctive.proofs.open_calls.ReadCalls.{charges}
 use Rattle.disjunctive.proofs.open_calls.ReadOnlyCalls.{reads-only}
 use Rattle.disjunctive.proofs.open_calls.of_fixed_schedules.charges.Key.{name}

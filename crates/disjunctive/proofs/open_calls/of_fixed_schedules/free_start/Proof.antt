@@ -5,7 +5,7 @@ use Rattle.free_starts.proofs.FreeStart as O
 use Rattle.free_starts.proofs.FreeStart.Laws as O′
 use Rattle.disjunctive.proofs.fixed_schedule_cores.free_core.Symbol as core
 use Rattle.disjunctive.proofs.fixed_schedule_cores.free_core.Met as core-thm
-use Rattle.disjunctive.proofs.Walk.{givenOf, refl, w32}
+use Rattle.ranges.proofs.Prelude.{givenOf, refl, w32}
 use Rattle.disjunctive.proofs.open_calls.ReadCalls.{free-start}
 use Rattle.disjunctive.proofs.open_calls.ReadOnlyCalls.{reads-only}
 use Rattle.disjunctive.proofs.open_calls.of_fixed_schedules.free_start.Key.{name}

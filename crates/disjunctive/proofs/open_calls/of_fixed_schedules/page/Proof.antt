@@ -4,7 +4,7 @@ use Rattle.pages.proofs.answer.Page as O
 use Rattle.pages.proofs.answer.Page.Laws as O′
 use Rattle.disjunctive.proofs.fixed_schedule_cores.page_core.Symbol as core
 use Rattle.disjunctive.proofs.fixed_schedule_cores.page_core.Met as core-thm
-use Rattle.disjunctive.proofs.Walk.{givenOf, refl, named}
+use Rattle.ranges.proofs.Prelude.{givenOf, refl, named}
 use Rattle.disjunctive.proofs.open_calls.ReadCalls.{page}
 use Rattle.disjunctive.proofs.open_calls.ReadOnlyCalls.{reads-only}
 use Rattle.disjunctive.proofs.open_calls.of_fixed_schedules.page.Key.{name}
