@@ -101,24 +101,19 @@ module _ (before : DisjunctivePropagator) (es ls : List ℤ) (posts atoms : ℕ)
       (subst (λ (d : ℕ → ℕ). PassesFormula (tasksWith (checkDurations before)) (mirrorAtoms d reason) (mirrorIfAny d c)) same
       (passes-alike (mirror J) (tasksWith (checkDurations before)) (sym (natural-count ds)) (λ k. sym (natural-duration ds k)) (mirrorAtoms (J .duration) reason) (mirrorIfAny (J .duration) c) p))
 
-  -- a post of the run, mirrored back
-  mirrored-passes : (j : ℕ) → j < length (run .posts)
-      → checkMirroredOf (checkDurations before) (atomWords (mirrorPost ds (post run j) .reason)) (atomWords (mirroredConsequent (mirrorPost ds (post run j)) ∷ [])) ≡ Passed
-  mirrored-passes j q =
-      let p : Post = mirrorPost ds (post run j) in
-      let r : MirroredPostRight J p = subst (MirroredPostRight J) (laws.post-at ds run j q) (right .posts j (omega (arith, laws.posts-same ds run))) in
-      let s = laws.reason-near ds es ls accepted es-long ls-long j q in
-      checked (post run j .reason) (some (mirroredConsequent p)) (s .0) (s .1) (mirrored-bound ds (accepted .few) (consequentOf (post run j)) (laws.post-near ds es ls accepted es-long ls-long j q))
-      (every-append (Meets (J .latest)) (p .reason) (negation (mirroredConsequent p) ∷ []) (met (p .reason) (r .reason-holds)) (above-bound (J .latest (p .task)) (p .bound) (r .lowers), tt))
-      (r .reason-passes)
-
   -- A post's reason passes with the post as its consequent,
   pub post-passes : (j : ℕ) → j < length (mirroredOf before es ls .posts)
       → checkMirroredOf (checkDurations before) (atomWords (post (mirroredOf before es ls) j .reason)) (atomWords (mirroredConsequent (post (mirroredOf before es ls) j) ∷ [])) ≡ Passed
   post-passes j q =
       let small : j < length (run .posts) = omega (arith, laws.posts-same ds run) in
+      let p : Post = mirrorPost ds (post run j) in
+      let r : MirroredPostRight J p = subst (MirroredPostRight J) (laws.post-at ds run j small) (right .posts j q) in
+      let s = laws.reason-near ds es ls accepted es-long ls-long j small in
       subst (λ (p : Post). checkMirroredOf (checkDurations before) (atomWords (p .reason)) (atomWords (mirroredConsequent p ∷ [])) ≡ Passed) (sym (laws.post-at ds run j small))
-      (mirrored-passes j small)
+      (checked (post run j .reason) (some (mirroredConsequent p)) (s .0) (s .1)
+      (mirrored-bound ds (accepted .few) (consequentOf (post run j)) (laws.post-near ds es ls accepted es-long ls-long j small))
+      (every-append (Meets (J .latest)) (p .reason) (negation (mirroredConsequent p) ∷ []) (met (p .reason) (r .reason-holds)) (above-bound (J .latest (p .task)) (p .bound) (r .lowers), tt))
+      (r .reason-passes))
 
   -- an overload's with none.
   pub overload-passes : (reason : List Atom) → mirroredOf before es ls .end ≡ overload reason → checkMirroredOf (checkDurations before) (atomWords reason) [] ≡ Passed

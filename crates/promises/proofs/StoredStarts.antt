@@ -5,7 +5,7 @@ use mathlib.Core.List.{List, [], _∷_}
 use Prim.Native.Nat.{ℕ, zero, suc, _≤_, _<_}
 use native.Mathlib.Omega.{arith}
 use lib.IntN.{ℤ, pos}
-use lib.ListN.{length, getD, take, length-map, List·getD-map}
+use lib.ListN.{length, getD, take, length-map, length-take, List·getD-map}
 use lib.Signed.{_≤ℤ_}
 use Rattle.scheduling.specs.Scheduling.{whole, Tasks}
 use Rattle.records.specs.declared.record.DisjunctivePropagator.{DisjunctivePropagator}
@@ -20,18 +20,13 @@ use Rattle.ranges.proofs.MovedStarts.{own-start, own-latest, first-permitted, l
 use Rattle.ranges.proofs.StoredStarts.{start-at, latest-at}
 use Rattle.promises.specs.Promise.{tasksLent}
 
-take-most : (n : ℕ) (ds : List ℕ) → length (take n ds) ≤ n
-take-most zero ds = omega arith
-take-most (suc n) [] = omega arith
-take-most (suc n) (d ∷ ds) = omega (arith, take-most n ds)
-
 module _ (before : DisjunctivePropagator) (ranges : List Range) where
   abbrev J : Tasks whole
   J = tasksLent before ranges
 
   -- a task of the record has a duration in it
   pub few : (k : ℕ) → k < J .count → k < before .count
-  few k q = omega (arith, take-most (before .count) (before .durations))
+  few k q = omega (arith, length-take (before .count) (before .durations))
 
   -- an accepted range has its ends in order
   pub proper : {posts atoms : ℕ} → AcceptedRun before (earliests ranges) (latests ranges) posts atoms → (k : ℕ) → k < J .count → J .earliest k ≤ℤ J .latest k
