@@ -12,12 +12,11 @@ use Rattle.checking.specs.declared.variable_state.Application.the-variants as a
 use Rattle.checking.specs.declared.variable_state.Applied.{Applied}
 use Rattle.checking.specs.States.{prepared}
 use Rattle.checking.proofs.PreparedStates.{prepared-right}
-use Rattle.records.specs.declared.record.Creation.the-variants as creation
 use Rattle.records.specs.Records.{creationTests, lengthsOf}
 use Rattle.checker.specs.BoundArrays.{mirroredBounds}
 use Rattle.checker.specs.declared.checker.Verdict.{Verdict}
 use Rattle.checker.specs.declared.checker.Verdict.the-variants.{Contradiction, Refused}
-use Rattle.checker.specs.Checks.{judged, concluded, checkAfter, checkOf}
+use Rattle.checker.specs.Checks.{concluded, checkAfter}
 use Rattle.checker.specs.declared.checker.Direction.{Direction}
 use Rattle.checker.specs.declared.checker.Direction.the-variants.{Forward, Mirrored}
 use Rattle.checker.specs.MirroredChecks.{lowerAs, upperAs, judgedAs, checkAs}

@@ -36,7 +36,7 @@ pub record Reads (n : ℕ) (atoms : List Atom) (lower upper : ℕ → Option ℤ
   pub above : (k : ℕ) → k < n → (u : ℤ) → lower k ≡ some u → Above zeroAt u
   pub fits : (k : ℕ) → k < n → (u : ℤ) → lower k ≡ some u → moment zeroAt u ≤ 4294967295
 
--- a test that cannot fail
+-- a test that cannot fail holds
 pub not-no : (b : Bool) → (b ≡ false → ⊥) → b ≡ true
 not-no true n = refl
 not-no false n = absurd (n refl)

@@ -40,7 +40,7 @@ side-most l u e h = by (known l && known u) e h
     by true none h = omega arith
     by false e h = omega arith
 
--- it has two bounds in mirrored time where it has two
+-- a task has two bounds in mirrored time where it has two
 pub mirrored-known : (p : ℕ) (l u : Option ℤ) → boundsBetween l u .known ≡ known (mirrorBound p u) && known (mirrorBound p l)
 mirrored-known p (some x) (some y) = refl
 mirrored-known p (some x) none = refl

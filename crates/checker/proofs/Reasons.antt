@@ -63,7 +63,7 @@ given-kinds : (as′ : List Atom) (c : Option Atom) → Every Bound as′ → Bo
 given-kinds as′ none b d = every-map (λ a q. omega (arith, q .kind)) as′ b
 given-kinds as′ (some a) b d = every-append (λ a. a .kind < 3) as′ (negation a ∷ []) (every-map (λ a q. omega (arith, q .kind)) as′ b) (negated-kind (a .kind) (d .kind), tt)
 
--- A reason whose atoms each variable can meet passes the check where it meets the formula, and the mirrored check where it meets the formula mirrored.
+-- A reason whose atoms each variable can meet passes the check where it meets the formula. It passes the mirrored check where it meets the formula mirrored.
 module _ (ds : List ℤ) (as′ : List Atom) (c : Option Atom) (ok : refusal (creationTests ds) ≡ 0) (few : length as′ ≤ PREMISES) (b : Every Bound as′) (d : BoundIfAny c)
     (w : (x : ℕ) → x < VARIABLES → (z : ℤ) × Admits (given as′ c) x z) where
   back : (P : List Atom → Option Atom → Type 0) → P as′ c → P (atomsOf (atomWords as′)) (consequentOf (consequentWords c))

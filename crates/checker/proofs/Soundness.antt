@@ -123,7 +123,7 @@ givenAs m d premises c = given (premisesAs m d premises) (consequentAs m d c)
 abbrev pub MeetsFormula : Direction → List ℤ → List Atom → Option Atom → Type 0
 MeetsFormula m ds premises c = PassesFormula (tasksWith ds) (premisesAs m (durationAt ds) premises) (consequentAs m (durationAt ds) c)
 
--- the bounds in either time are those of its atoms
+-- the bounds in either time are those that the atoms of that time leave
 pub reads-as : (m : Direction) (ds : List ℤ) → refusal (creationTests ds) ≡ 0 → (ps cs : List ℤ) → prepared ps cs .answer ≡ application.Consistent
     → Reads (length ds) (givenAs m (durationAt ds) (atomsOf ps) (consequentOf cs)) (lowerAs m ds (prepared ps cs .state)) (upperAs m ds (prepared ps cs .state))
 reads-as Forward ds ok ps cs consistent = reads ds ps cs (few ds ok) consistent
@@ -156,7 +156,7 @@ judged-check m ds ps cs e = by (refusal (creationTests ds)) refl e
     by zero p v = on p (prepared ps cs .answer) refl v
     by (suc n) p v = absurd (omega arith)
 
--- A check that passes meets the formula,
+-- A check that passes meets the formula.
 pub passed-formula : (m : Direction) (ds ps cs : List ℤ) → checkAs m ds ps cs ≡ Passed → (refusal (creationTests ds) ≡ 0) × MeetsFormula m ds (atomsOf ps) (consequentOf cs)
 passed-formula m ds ps cs e =
     let j = judged-check m ds ps cs (let z : verdictNumbers (checkAs m ds ps cs) .kind ≡ 0 = ap (λ (v : Verdict). verdictNumbers v .kind) e in omega (arith, z)) in
@@ -167,7 +167,7 @@ passed-formula m ds ps cs e =
           (alike m ds (durationAt ds) lower upper (consequentOf cs) ∙ sym (j .judgement) ∙ e),
     )
 
--- so that no starts contradict it, mirrored where it is.
+-- So no starts contradict a check that passes, nor a mirrored check that passes.
 pub check-sound : (ds ps cs : List ℤ) → checkOf ds ps cs ≡ Passed → (s : ℕ → ℤ) → Contradicts (tasksWith ds) (atomsOf ps) (consequentOf cs) s → ⊥
 unfolding checkOf
 check-sound ds ps cs e s =
@@ -182,7 +182,7 @@ mirrored-sound ds ps cs e s c =
     passed-sound (tasksWith ds) (λ k. mirrorStart (d k) (s k)) (mirrorAtoms d (atomsOf ps)) (mirrorIfAny d (consequentOf cs)) (durations-last ds ok) p
     (contradicts-mirrored (tasksWith ds) s (atomsOf ps) (consequentOf cs) c)
 
--- And a check that the formula judges passes where it meets the formula,
+-- A check that the formula judges passes where it meets the formula,
 consistent-passes : (m : Direction) (ds ps cs : List ℤ) → refusal (creationTests ds) ≡ 0 → prepared ps cs .answer ≡ application.Consistent → MeetsFormula m ds (atomsOf ps) (consequentOf cs)
     → checkAs m ds ps cs ≡ Passed
 consistent-passes m ds ps cs ok consistent p =
@@ -204,7 +204,7 @@ exactly-passed m ds ps cs h =
     let j = judged-check m ds ps cs h in
     (λ e. passed-formula m ds ps cs (kind-0 (checkAs m ds ps cs) e) .1, λ f. ap (λ (v : Verdict). verdictNumbers v .kind) (consistent-passes m ds ps cs (j .ok) (j .consistent) f))
 
--- Accepted atoms of the kinds ≥, ≤ and = are consistent where each variable can meet them.
+-- Accepted atoms of the kinds ≥, ≤ and = are consistent where each variable can meet them. Their check passes where it meets the formula.
 pub met-passes : (m : Direction) (ds ps cs : List ℤ) → refusal (creationTests ds) ≡ 0 → length ps ≤ 3 * PREMISES + 2 → rightLists ps cs ≡ true
     → Every (λ a. a .kind < 3) (given (atomsOf ps) (consequentOf cs)) → ((x : ℕ) → x < VARIABLES → (z : ℤ) × Admits (given (atomsOf ps) (consequentOf cs)) x z)
     → MeetsFormula m ds (atomsOf ps) (consequentOf cs) → checkAs m ds ps cs ≡ Passed

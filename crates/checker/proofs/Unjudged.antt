@@ -74,7 +74,7 @@ module _ (m : Direction) (ds ps cs : List ℤ) where
   by-formula true a h e = other-kind (answered 0 []) a e (λ z. omega (arith, z, h))
   by-formula false a h e = other-kind (answered 1 []) a e (λ z. omega (arith, z, h))
 
-  -- The formula's part has no other answer of those kinds than 8.
+  -- Past the atoms, an answer of kind 2 or more is 8: the consequent's variable does not have two bounds.
   record Lacking (s : VariableState) (o : Option Atom) (a : Answer) : Type 0 where
     eight : a .number ≡ 8
     atom : Atom

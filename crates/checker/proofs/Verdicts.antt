@@ -108,7 +108,7 @@ module _ (ds ps cs : List ℤ) (ok : refusal (creationTests ds) ≡ 0) (consiste
   at : {A : Type 0} (f : ℕ → A) (d : A) (k : ℕ) → k < n → getD (filled f n (replicate TASKS d)) k d ≡ f k
   at f d k q = filled-at f n (replicate TASKS d) d k q (omega (arith, few, length-replicate TASKS d))
 
-  -- what was filled before is filled again
+  -- an array that is filled a second time has the second values
   at-again : (f g : ℕ → ℕ) (k : ℕ) → k < n → getD (filled f n (filled g n noTasks)) k 0 ≡ f k
   at-again f g k q = filled-at f n (filled g n noTasks) 0 k q (omega (arith, few, filled-length g n noTasks))
 

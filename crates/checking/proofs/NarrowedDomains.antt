@@ -139,7 +139,7 @@ module _ (d : Domain) (v : ℤ) (t : Tight d) where
       })
 
 -- ---- a value taken out
--- d′ admits what d admits but for v, or v too
+-- d′ admits what d admits, with or without v
 pub record Cut (d d′ : Domain) (v : ℤ) : Type 0 where
   pub tight : Tight d′
   pub to : (z : ℤ) → Admitted d′ z → Admitted d z
@@ -212,7 +212,7 @@ module _ (d : Domain) (v : ℤ) (t : Tight d) where
   pub high-lower : withoutUpper d v .«lower_bound» ≡ d .«lower_bound»
   high-lower = high (λ e. e .«lower_bound» ≡ d .«lower_bound») (λ _. upper-lower d (v +ℤ negsuc 0) t) (λ _. refl)
 
-  -- where v is still inside, nothing has moved
+  -- where v stays inside, nothing has moved
   pub low-same : ltExt (withoutLower d v .«lower_bound») (Int v) ≡ true → withoutLower d v ≡ d
   low-same = low (λ e. ltExt (e .«lower_bound») (Int v) ≡ true → e ≡ d) (λ _ y. clash (lt-to-le (tightenedLower d (v +ℤ pos 1) .«lower_bound») (Int v) y) past-low) (λ _ _. refl)
 

@@ -1,4 +1,4 @@
--- A bound at a value moves by one, up or down: the value, as the machine reads it, and one beside it.
+-- A bound at a value moves by one, up or down: what the machine reads is the value beside it, near the limits.
 use mathlib.Core.Path.{_≡_, sym, subst}
 use Prim.Native.Nat.{_+_}
 use native.Mathlib.Omega.{arith}

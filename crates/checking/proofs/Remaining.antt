@@ -62,7 +62,7 @@ module _ (p c : List ℤ) where
     pub none-remains : length p + length c ≤ i → prepared p c ≡ record { answer = Consistent; state = s }
     none-remains h = m .whole ∙ ap (λ (l : List Atom). applyAll l s) (given-end p c i h) ∙ all-end s
 
-    -- the next of them
+    -- the next atom of those that remain
     pub turn : i < length p + length c → (a : Atom) → a ≡ givenAt p c i → Turn i s a
     turn q a e =
         let n = subst (Next p c i) (sym e) (next p c i q (m .right)) in

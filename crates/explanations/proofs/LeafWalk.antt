@@ -176,7 +176,7 @@ module _ {white : ℕ → Bool} {task : ℕ → ℕ} {P : ℕ → ℕ → Type 0
     pub known-there : (Q : ℕ → Type 0) → Each Q (between white task a n) → Q (task x)
     known-there Q h = met-each white task a n x (w .from) (w .small) (w .here) Q h
 
-    -- the next leaf, which there is: the walk stops somewhere, and has not so far
+    -- the walk goes on to the next leaf: there is one, since the walk stops somewhere and has not so far
     pub walks-on : {y : ℕ} → Somewhere P ds (between white task a n) → (P (task x) q → ⊥) → Next white (x + 1) n y → WalkedTo white task P ds a n y (q - getD ds (task x) 0)
     walks-on {y} s unmet t =
         let more : length (between white task a y) ≡ suc so-far = met-next white task a n x (w .from) (w .small) (w .here) t ∙ add-one so-far in

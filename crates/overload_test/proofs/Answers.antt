@@ -29,7 +29,7 @@ use Rattle.overload_test.specs.Tested.{OverloadTested}
 use Rattle.overload_test.proofs.ReadTasks.{shown, met}
 
 module _ (J : Tasks natural) where
-  -- step by step
+  -- the answer, step by step
   ends-no : (k : ℕ) → answerFrom J k 0 ≡ No
   unfolding answerFrom
   ends-no k = refl
@@ -42,7 +42,7 @@ module _ (J : Tasks natural) where
   unfolding answerFrom
   goes-on k d y = rw (y, answerFrom) refl
 
-  -- the same of n tasks in all
+  -- its steps, where n tasks are read in all
   module _ (n : ℕ) (k : ℕ) (q : k < n) where
     left : n - k ≡ suc (n - (k + 1))
     left = omega arith
@@ -82,7 +82,7 @@ module _ (J : Tasks natural) where
           inl (record { at = s .at; is = goes-on k d y ∙ s .is; from = omega (arith, s .from); small = omega (arith, s .small); over = s .over; before = more y (s .before) })
       by (inr y) (inr p) = inr (record { is = goes-on k d y ∙ p .is; none = more y (λ j a b. p .none j a (omega arith)) })
 
-  -- yes with some number of them, or no, exactly where some set overloads, or none
+  -- yes with some number of tasks exactly where a set overloads, and no exactly where none does
   pub record Says (r : Overload) : Type 0 where
     pub yes : ((k : ℕ) × (overloadNumbers r ≡ answered 0 (pos k ∷ []))) ↔ ((Ω : TaskSet) × Overloads J Ω)
     pub no : (overloadNumbers r ≡ answered 1 []) ↔ ((Ω : TaskSet) → Overloads J Ω → ⊥)

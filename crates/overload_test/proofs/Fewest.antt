@@ -40,7 +40,7 @@ module _ (J : Tasks natural) where
       let l = last-met J ok Ω o in
       clash (l .shows) (quiet m e (index (byCompletion J) (l .last)) (omega (arith, read-place J (m - 1) (l .last) (before (l .last) (l .member .mem)))))
 
--- the same of an accepted call, over whole numbers
+-- an accepted call reads no task too many, over whole numbers
 pub none-before : (before : DisjunctivePropagator) (es ls : List ℤ) (bars : Bool) (r : Overload) → OverloadTested before es ls bars r → inputNumber before es ls bars ≡ 0
     → length (before .durations) ≡ TASKS → (k : ℕ) → overloadNumbers r ≡ answered 0 (pos k ∷ [])
     → (Ω : TaskSet) → ((j : ℕ) → Ω j ≡ true → read (momentsIn before es ls) (k - 1) j ≡ true) → Overloads (tasksIn before es ls) Ω → ⊥

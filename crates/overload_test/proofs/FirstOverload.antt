@@ -1,4 +1,4 @@
--- A yes of the test stands at the first task with which those read overload, and nothing is refused.
+-- A yes of the test stands at a task with which those read overload, and nothing is refused.
 use mathlib.Core.Path.{_≡_, sym, ap, _∙_}
 use mathlib.Core.Bool.{true}
 use mathlib.Core.Logic.{inl, inr}

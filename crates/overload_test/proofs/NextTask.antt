@@ -1,4 +1,4 @@
--- The next task goes into the theta tree: its leaf becomes white, and the root has the ect of the tasks read. And the arrays come to hold the tasks.
+-- The tasks come into the arrays, and from there one by one into the theta tree. A task's leaf becomes white, and the root has the ect of the tasks read.
 use mathlib.Core.Path.{_≡_, refl, sym, ap, ap₂, subst, _∙_}
 use mathlib.Core.List.{List, []}
 use mathlib.Core.Option.{Option}

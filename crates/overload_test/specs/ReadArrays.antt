@@ -12,11 +12,11 @@ use Rattle.trees.specs.Trees.{IsPlainTree}
 use Rattle.chosen_sets.specs.TaskArrays.{HeldSet}
 use Rattle.overload_test.specs.ReadTasks.{byCompletion}
 
--- no task is in theta yet
+-- the set without a task
 abbrev pub noTask : TaskSet
 noTask k = false
 
--- The arrays hold the tasks J, the place of each one's leaf, and the order in which they are read; the words a tree of empty leaves.
+-- The arrays hold the tasks J, the place of each one's leaf, and the order in which they are read. The words hold a tree of empty leaves.
 pub record Readable (inner n : ℕ) (words mapping tasks est lct durations : List ℕ) : Type 0 where
   pub J : Tasks natural
   pub held : HeldSet J noTask n [] est durations

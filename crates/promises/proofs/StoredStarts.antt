@@ -1,11 +1,11 @@
--- Starts that a call gives between the ends of their ranges are stored at the first permitted ones from there on, and latest starts at the last ones up to there.
+-- Starts that a call gives between the ends of their ranges are stored at the first permitted ones from there on. Latest starts are stored at the last ones up to there.
 use mathlib.Core.Path.{_≡_, sym, ap, subst, _∙_}
 use mathlib.Core.Bool.{true}
-use mathlib.Core.List.{List, [], _∷_}
-use Prim.Native.Nat.{ℕ, zero, suc, _≤_, _<_}
+use mathlib.Core.List.{List}
+use Prim.Native.Nat.{ℕ, _<_}
 use native.Mathlib.Omega.{arith}
 use lib.IntN.{ℤ, pos}
-use lib.ListN.{length, getD, take, length-map, length-take, List·getD-map}
+use lib.ListN.{length, getD, length-map, length-take, List·getD-map}
 use lib.Signed.{_≤ℤ_}
 use Rattle.scheduling.specs.Scheduling.{whole, Tasks}
 use Rattle.records.specs.declared.record.DisjunctivePropagator.{DisjunctivePropagator}

@@ -70,7 +70,7 @@ atoms-at atoms₀ made p a c d h = h ∙ rw (a, c, d) (reason-stored atoms₀ (r
 starts-at : {es es′ : List ℤ} (starts : List ℕ) (b : ℕ) {i j : ℕ} → es ≡ map (instant zeroAt) starts → i ≡ j → es′ ≡ set es i (instant zeroAt b) → es′ ≡ map (instant zeroAt) (set starts j b)
 starts-at starts b {i} {j} a d h = h ∙ rw (a, d) (sym (map-set (instant zeroAt) starts j b))
 
--- leaves change, and only their count is told
+-- leaves change: in the slices and their counts, only the count of changes does
 pub recounted : {posts₀ atoms₀ es posts atoms : List ℤ} {st : State} {many far changed : ℕ} (k : ℕ) {ls : List Leaf} → Slices posts₀ atoms₀ st es posts atoms many far changed
     → Slices posts₀ atoms₀ (record { leaves = ls; starts = st .starts; posts = st .posts; changes = st .changes + k }) es posts atoms many far (changed + k)
 recounted k a = record {

@@ -1,10 +1,10 @@
--- The level's task j, where est + p of j alone is the ect_bar of before. Whatever set is joined to j completes by est of j, or the ect_bar would be later.
--- So once j is gray, it is the only task that reaches past the next lct by so much: the search finds it, and the ect of Theta does not raise its start.
+-- A level's task j whose est + p is the ect_bar before j leaves Theta. No set that may go with j completes after j starts, or that ect_bar would be later.
+-- So once j is gray, every other task reaches less: the search finds j, and the ect of Theta does not raise the start of j.
 use mathlib.Core.Path.{_≡_, refl, sym, ap, subst, _∙_}
 use mathlib.Core.Bool.{true, false}
-use mathlib.Core.Logic.{_⊎_, inl, inr}
+use mathlib.Core.Logic.{inl, inr}
 use mathlib.Core.List.{List}
-use mathlib.Core.Option.{Option, some, none}
+use mathlib.Core.Option.{some}
 use Prim.Native.Nat.{ℕ, suc, _+_, _≤_, _<_, min}
 use native.Mathlib.Omega.{arith}
 use native.Mathlib.Decide.{ℕ-discrete}
@@ -12,7 +12,7 @@ use lib.ListN.{getD, set}
 use borrow.Author.Tests.{ne-eqb}
 use Rattle.integers.specs.Orders.{index}
 use Rattle.integers.proofs.Bools.{bool, clash}
-use Rattle.scheduling.specs.Scheduling.{natural, Tasks, Proper, Atom, TaskSet, _with_, In, Outside, Subset, NonEmpty, EstPlusP, Ect, processing}
+use Rattle.scheduling.specs.Scheduling.{natural, Tasks, Proper, Atom, TaskSet, _with_, In, Outside, Subset, EstPlusP, Ect, processing}
 use Rattle.scheduling.specs.Moments.{ByEarliest, ByCompletion}
 use Rattle.scheduling.proofs.Sets.{_less_, less-in, less-self, with-in, with-new, with-old}
 use Rattle.scheduling.proofs.Processing.{processing-with, processing-less}
@@ -37,7 +37,7 @@ pub record IsFirst (J : Tasks natural) (estOrder : List ℕ) (ls : List Leaf) (j
   pub found : responsible J estOrder ls ≡ some (index estOrder j)
   pub not-raised : exceeds (ect J estOrder ls) (J .earliest j) ≡ false
 
--- a part with one task more, which starts as early as the part or the task
+-- a part of S with j added starts no earlier than the part or j
 with-part : (J : Tasks natural) (S : TaskSet) (j : ℕ) → Outside J S j → (v : ℕ) (f : EstPlusP J S v)
     → (a : ℕ) × EstPlusP J (S with j) (a + processing J (f .part) + J .duration j) × (min (J .earliest j) (f .start) ≤ a)
 with-part J S j out v f =
@@ -80,7 +80,7 @@ module _ (J : Tasks natural) (ok : Proper J) (estOrder : List ℕ) (rk : ByEarli
   gray-j : In J Λ j
   gray-j = record { small = white .small; mem = with-new Λ₀ j }
 
-  -- Where S with j is inside a set whose ect counts for the ect_bar of before, no part of S completes after j starts: with j it would be later than j alone.
+  -- S with j is inside a set whose ect counts for the ect_bar before. Then no part of S completes after j starts: with j it would end later than j alone.
   early : (S S₀ : TaskSet) → S j ≡ false → Subset J (S with j) S₀ → ((v : ℕ) → Ect J S₀ v → tree.AtMostOne J ok estOrder rk ls Ω₀ Λ₀ before v) → (v : ℕ) → EstPlusP J S v
       → v ≤ J .earliest j
   early S S₀ out inside one v f =
@@ -123,7 +123,7 @@ module _ (J : Tasks natural) (ok : Proper J) (estOrder : List ℕ) (rk : ByEarli
     | inr y ↦ y
   ]
 
-  -- the ect_bar is that of j alone, at least
+  -- the ect_bar is at least est + p of j
   reach : (v : ℕ) × (ect-bar J estOrder ls₁ ≡ some v) × (J .earliest j + J .duration j ≤ v)
   reach =
       let (v, z, largest) = tree.bar-some J ok estOrder rk ls₁ Ω Λ after (inr (j, gray-j)) in

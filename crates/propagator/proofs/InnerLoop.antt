@@ -51,10 +51,7 @@ module _ {size : TreeSize} {lct : ℕ} {words : List ℕ} {es posts atoms : List
   abbrev n : ℕ
   n = size .leaves
 
-  abbrev inn : ℕ
-  inn = size .inner
-
-  -- `left` turns of `all` are left, and the slices and the tree are at the state of a definition that has as many left
+  -- `left` of `all` turns are left, and slices and tree are at a state from which the definition's loop has as many left
   pub record Turned (all left : ℕ) (words′ : List ℕ) (es′ posts′ atoms′ : List ℤ) (w′ : Written) : Type 0 where
     pub st : State
     pub reached : Reached zeroAt (s .J) (s .estOrder) (s .lctOrder) (s .level) st

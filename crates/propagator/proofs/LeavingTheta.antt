@@ -1,4 +1,4 @@
--- A white leaf changes its colour; that of a level's task may.
+-- A task leaves Theta: its leaf gets another colour, and the leaf of a level's task may.
 use mathlib.Core.Path.{_≡_, refl, sym, ap, subst, _∙_}
 use mathlib.Core.Bool.{Bool, true}
 use mathlib.Core.List.{List}
@@ -21,12 +21,12 @@ module _ {inner : ℕ} {words mapping est durations : List ℕ} {j : ℕ} {joine
   abbrev pub shown-leaves : HeldLeaves inner words
   shown-leaves = record { J = m .J; estOrder = m .estOrder; leaves = m .leaves; limited = m .limited; has = m .has }
 
-  -- the task has its place there
+  -- the task has its place among the leaves
   pub placed : {k : ℕ} → k ≡ getD mapping j 0 → {e p : ℕ} → e ≡ getD est j 0 → p ≡ getD durations j 0 → HasTask (m .J) (m .estOrder) k e p
   placed is {e} {p} s d = subst (λ (k : ℕ). HasTask (m .J) (m .estOrder) k e p) (sym is)
       (record { inside = m .inside; start = s ∙ m .start ∙ ap (m .J .earliest) (sym (m .task)); lasts = d ∙ m .lasts ∙ ap (m .J .duration) (sym (m .task)) })
 
-  -- the same where it leaves both sets
+  -- that place is below the number of tasks
   pub within : {k : ℕ} → k ≡ getD mapping j 0 → k < m .J .count
   within is = omega (arith, m .inside)
 

@@ -263,11 +263,11 @@ module _ {size : TreeSize} {first : ℕ} {past : Bool} {words : List ℕ} {es po
             words-are = k .atom-words ∙ ap (λ (l : List Atom). sets atoms′ (3 * w′ .atoms) (atomWords l)) reason-is
                 ∙ rw (v .slices .atom-words, v .slices .explained) (reason-stored atoms (reasons (v .st .posts)) reason)
 
-      -- they do not: the task of the level goes to Lambda
+      -- they do not: the task of the level leaves Theta
       abbrev pub moves : Movable inn words′ mapping est durations j joined
       moves = leaving.movable G (s .arrays) t small-t j j-is (v .st .leaves) (v .has) (v .tree)
 
-      -- its completion from its start fits a word
+      -- est + p of the level's task fits a word
       pub reachable : (j < TASKS) × (getD est j 0 + getD durations j 0 < 2 ^ 32)
       reachable = let q : j < J .count = omega (arith, j-small, s .arrays .count) in
           (omega (arith, j-small, few), omega (arith, s .arrays .starts .at j j-small, s .arrays .lasts .at j j-small, G .proper .ranges j q, G .fits j q))
@@ -293,7 +293,7 @@ module _ {size : TreeSize} {first : ℕ} {past : Bool} {words : List ℕ} {es po
         pub still : exceeds ect end ≡ false
         still = past-end quiet
 
-        -- the leaf has the colour that the task left Theta for; the source makes a gray leaf in two leaf changes, and an empty one in a third
+        -- the leaf has its new colour: in the source a gray leaf takes two leaf changes, and an empty one a third
         at-place : {k : ℕ} → taken ≡ k → HasLeaves J estOrder (set (v .st .leaves) x (leftFor k)) inn words″
             × (joins ≡ true → IsTree J estOrder (set (v .st .leaves) x (leftFor k)) inn words″)
         at-place z = rw (sym z, sym (leaving.gray-place G (s .arrays) t small-t j j-is)) (m moves)

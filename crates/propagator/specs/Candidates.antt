@@ -94,7 +94,7 @@ module _ {size : TreeSize} {lct : ℕ} {words : List ℕ} {es posts atoms : List
   Considered (turn.Emptied w′) words′ es′ posts′ atoms′ = (st′ : State) × AtNow st′ words′ es′ posts′ atoms′ w′
       × ((f : ℕ) → turns (suc f) (s .st) ≡ stop st′)
 
-  -- so many of them
+  -- f turns of the inner loop
   abbrev pub AllConsidered : ℕ → code.Turn → List ℕ → List ℤ → List ℤ → List ℤ → Type 0
   AllConsidered f (turn.On w′) words′ es′ posts′ atoms′ = (st′ : State) × AtNow st′ words′ es′ posts′ atoms′ w′ × (turns f (s .st) ≡ on st′)
   AllConsidered f (turn.Emptied w′) words′ es′ posts′ atoms′ = (st′ : State) × AtNow st′ words′ es′ posts′ atoms′ w′ × (turns f (s .st) ≡ stop st′)

@@ -24,7 +24,7 @@ pub record Movable (inner : ℕ) (words mapping est durations : List ℕ) (j : �
   pub start : getD est j 0 ≡ J .earliest j
   pub lasts : getD durations j 0 ≡ J .duration j
 
--- Whatever leaves they held, they now hold these with the leaf of j in the colour c, and their tree where the inner nodes are to be joined.
+-- Whatever leaves the words held, they then hold these with the leaf of j in the colour c. They hold the tree too where the inner nodes are to be joined.
 abbrev pub Recoloured : Leaf → ℕ → List ℕ → List ℕ → List ℕ → List ℕ → List ℕ → ℕ → Bool → Bool → Type 0
 Recoloured c inner words words′ mapping est durations j joined joins = (m : Movable inner words mapping est durations j joined)
     → HasLeaves (m .J) (m .estOrder) (set (m .leaves) (getD mapping j 0) c) inner words′
@@ -34,7 +34,7 @@ Recoloured c inner words words′ mapping est durations j joined joins = (m : Mo
 abbrev pub KnownTurns : List ℕ → List ℕ → ℕ → ℕ → Bool → ℕ → Type 0
 KnownTurns est durations j last needed taken = (taken ≡ 0) ⊎ ((taken ≡ 1) × (needed ≡ true) × (getD est j 0 + getD durations j 0 ≡ last))
 
--- The colour that j leaves Theta for.
+-- The colour of j's leaf once j has left Theta: gray where j goes to Lambda, empty where its turn is known.
 abbrev pub leftFor : ℕ → Leaf
 leftFor zero = gray
 leftFor (suc taken) = empty

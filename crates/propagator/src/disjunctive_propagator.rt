@@ -149,10 +149,10 @@ pub fn run_accepted(
 // Performs the edge-finding algorithm (see `DisjunctivePropagator` for an intuition and the work on which it is based). Every task is in Theta, the sorted
 // tasks go from there to Lambda one by one, and the tasks of Lambda are considered after each.
 //
-// A move to Lambda never raises ect_bar. So where the last known one is not past the next lct, that level has no candidate and no overload. The level is then
-// the gray leaf and its count alone, and the inner nodes are left until a level needs the root. One such level after a level that needed it is joined all the
-// same: a leaf's ancestors now are fewer than all inner nodes later. The first known one is `ect`, that of all tasks. Where it is `past` the first lct, the
-// inner nodes are joined already.
+// A move to Lambda never raises ect_bar. So where the last known ect_bar is not past the next lct, that level has no candidate and no overload. The level is
+// then the gray leaf and its count alone, and the inner nodes are left until a level needs the root. One such level right after a level that needed the root
+// is joined all the same: a leaf's ancestors are fewer than all inner nodes. The first known ect_bar is `ect`, that of all tasks. Where it is `past` the first
+// lct, the inner nodes are joined already.
 fn edge_finding<'a>(
     nodes: &mut [u32; TREEWORDS],
     earliest: &mut [i32],
@@ -379,7 +379,7 @@ fn move_to_lambda<'a>(
     }
 }
 
-// Takes task j out of Theta, and joins the inner nodes in the same way.
+// Takes task j out of Theta, and joins the inner nodes as `move_to_lambda` does.
 fn take_out(
     nodes: &mut [u32; TREEWORDS],
     mapping: &[u32; TASKS],
@@ -491,7 +491,7 @@ enum Turn {
     Emptied(Written),
 }
 
-// Considers the tasks of Lambda for which the edge-finding condition holds, one after the other. Each turn takes one out, and there are at most so many turns.
+// Considers the tasks of Lambda for which the edge-finding condition holds, one after the other. Each turn takes one out; there are at most `turns` of them.
 fn consider_all<'a>(
     nodes: &mut [u32; TREEWORDS],
     earliest: &mut [i32],

@@ -22,13 +22,13 @@ use Rattle.runs.specs.Words.{reasons}
 use Rattle.runs.proofs.ReasonLengths.{conflict-length, propagation-length}
 use Rattle.runs.proofs.LevelSteps.{Measure, OutOk, run-ok, Inv, Found, Th, lam, AllGood}
 
--- the white leaves among d leaves
+-- at most d of d leaves are white,
 pub theta-few : (white : ℕ → Bool) (task : ℕ → ℕ) (a d : ℕ) → length (thetaOf white task a d) ≤ d
 theta-few white task a zero = rw (theta-none white task a) (omega arith)
 theta-few white task a (suc d) = elim (bool (white a))
     [ inl y ↦ rw (theta-white white task a d y) (omega (arith, theta-few white task (suc a) d)) | inr y ↦ rw (theta-skip white task a d y) (omega (arith, theta-few white task (suc a) d)) ]
 
--- are fewer where one is not white
+-- and fewer where one is not
 theta-fewer : (white : ℕ → Bool) (task : ℕ → ℕ) (a d x : ℕ) → a ≤ x → x < a + d → white x ≡ false → suc (length (thetaOf white task a d)) ≤ d
 theta-fewer white task a zero x p q y = absurd (omega arith)
 theta-fewer white task a (suc d) x p q y = elim (ℕ-discrete a x) [
@@ -82,9 +82,10 @@ module _ (o : ℕ) (J : Tasks natural) (ok : Proper J) (estOrder lctOrder : List
   reasons-short (p ∷ ps) g = omega (arith, length-append (p .reason) (reasons ps), g 0 (omega arith), reasons-short ps (λ j q. g (suc j) (omega arith)))
 
   module _ (t : ℕ) (st : State) (v : Inv o J ok estOrder lctOrder rk ord Short ShortEnd short t st) where
+    -- at level t there are at most t posts,
     pub posts-few : length (st .posts) ≤ t
     posts-few = omega (arith, v .few)
 
-    -- with one more, which was not posted yet
+    -- and fewer where a task is in Λ, which was not posted yet
     pub posts-fewer : (k : ℕ) → In J (lam o J ok estOrder lctOrder rk ord Short ShortEnd short st) k → suc (length (st .posts)) ≤ t
     posts-fewer k h = omega (arith, v .few, card-less J (lam o J ok estOrder lctOrder rk ord Short ShortEnd short st) k h)

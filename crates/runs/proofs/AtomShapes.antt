@@ -33,7 +33,7 @@ use Rattle.runs.proofs.AtomRoom as room
 use Rattle.runs.proofs.LevelSteps.{Measure, OutOk, run-ok}
 use Rattle.runs.proofs.WalkStops as stops
 
--- An atom of a reason on one of the tasks J, none of which can end before `low` or start after `high`, and which last d in all: a task that starts at the value starts at most
+-- An atom of a reason on one of the tasks J. None of these can end before `low` or start after `high`, and they last d in all. A task that starts at the value starts at most
 -- d before `low`, and ends at most d after `high`.
 pub record Shaped (o : ℕ) (J : Tasks natural) (low high d : ℕ) (a : Atom) : Type 0 where
   pub task : a .variable < J .count

@@ -29,7 +29,7 @@ use Rattle.runs.specs.Demand.{Right, PostRight, OverloadRight, post}
 use Rattle.runs.proofs.LevelSteps.{OutOk, run-ok}
 use Rattle.runs.proofs.RightReasons.{all-right}
 
--- What no number refuses: from 1 to TASKS tasks, durations of 1 or more with a sum of at most DURATIONS, starts within ±limit, each earliest at most its latest.
+-- What no number refuses: from 1 to TASKS tasks, durations of 1 or more that sum to at most DURATIONS, starts within ±limit, each earliest at most its latest.
 -- The caller's limit is START; mirrored, such starts are within MIRRORED.
 pub record AcceptedTasks (limit : ℕ) (ds : List ℕ) (es ls : List ℤ) : Type 0 where
   pub some : 1 ≤ length ds

@@ -1,4 +1,4 @@
--- The clauses of the two loops and their cases.
+-- The clauses of a run's inner and outer loop, and the cases of each.
 use mathlib.Core.Path.{_≡_, refl, sym, ap, subst, _∙_}
 use mathlib.Core.Bool.{Bool, true, false}
 use mathlib.Core.Logic.{_⊎_, inl, inr}
@@ -57,7 +57,7 @@ module _ (o : ℕ) (J : Tasks natural) (estOrder lctOrder : List ℕ) (f t : ℕ
       | inr d ↦ (let low : ltb (J .earliest (T x)) (d .0) ≡ false = ap (λ (u : Option ℕ). exceeds u (J .earliest (T x))) (sym (d .1)) ∙ y in rw (z, w, d .1, low, inner) refl)
     ]
 
-    -- it is b, which is
+    -- Θ's ect is b
     module _ (b : ℕ) (is : ect J estOrder (st .leaves) ≡ some b) where
       pub inner-stop : ltb (J .earliest (T x)) b ≡ true → ltb (J .latest (T x)) b ≡ true → inner o J estOrder lctOrder (suc f) t st ≡ stop (posted o J estOrder lctOrder st (T x) b t)
       unfolding inner

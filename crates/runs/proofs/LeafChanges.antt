@@ -1,4 +1,4 @@
--- A run of n tasks makes at most 4n − 3 leaf changes: n fill Θ, each level but the last moves one task to Λ, which is two, and only a task of Λ leaves it, which is one.
+-- A run of n tasks makes at most 4n − 3 leaf changes: n fill Θ, and each level but the last makes two that move a task to Λ. Each task of Λ leaves it by one more at most.
 use mathlib.Core.List.{List}
 use Prim.Native.Nat.{ℕ, _+_, _-_, _*_, _≤_, _<_}
 use native.Mathlib.Omega.{arith}

@@ -1,4 +1,4 @@
--- What holds at each level of a run, and how each step keeps it, for any property of posts and reasons that holds where the run makes them.
+-- What holds at each level of a run, and how each step keeps it. A property of posts and reasons is part of it where it holds of each that the run makes.
 use mathlib.Core.Path.{_≡_, refl, sym, ap, subst, _∙_}
 use mathlib.Core.Bool.{true, false}
 use mathlib.Core.Logic.{inl, inr}
@@ -53,7 +53,7 @@ done-same J now now′ m task bound z d = record {
   once = d .once;
 }
 
--- so do posts, and at those below m
+-- posts look at the same starts, and at the tasks and bounds below m
 posts-same : (J : Tasks natural) (now now′ : ℕ → ℕ) (m : ℕ) (task bound task′ bound′ : ℕ → ℕ) → ((k : ℕ) → k < J .count → now′ k ≡ now k)
     → ((j : ℕ) → j < m → task′ j ≡ task j) → ((j : ℕ) → j < m → bound′ j ≡ bound j) → Posts J now m task bound → Posts J now′ m task′ bound′
 posts-same J now now′ m task bound task′ bound′ ns ts bs p = record {
@@ -213,7 +213,7 @@ module _ (o : ℕ) (J : Tasks natural) (ok : Proper J) (estOrder lctOrder : List
     all-stand : (t : ℕ) (st : State) (e : End) → (e ≡ emptied → ⊥) → Inv t st → StartsLeft (edges.ended o J estOrder lctOrder st e)
     all-stand t st e ne v = record { many = length (st .posts); all = λ _. refl; but-last = λ z. absurd (ne z); stand = standing t st (st .posts) v (λ j q. refl) (λ j q r. absurd (omega arith)) }
 
-    -- and at its end: no task of Λ passes any more
+    -- what holds at the end of a level t: no task of Λ passes
     pub record Closed (t : ℕ) (st : State) : Type 0 where
       pub inv : Inv t st
       pub none-passes : E (Th t) ≤ En t → (k : ℕ) → In J (lam st) k → E (Th t with k) ≤ En t
@@ -226,7 +226,7 @@ module _ (o : ℕ) (J : Tasks natural) (ok : Proper J) (estOrder lctOrder : List
       pub few : length (st .posts) ≤ t
       pub counted : st .changes ≤ n + 3 * t
 
-    -- what the inner loop leaves: after enough turns no task of Λ passes any more
+    -- what the inner loop leaves: after enough turns no task of Λ passes
     abbrev pub TurnOk : Type 0 → ℕ → Turn → Type 0
     TurnOk enough t (on st) = Inv t st × (enough → Closed t st)
     TurnOk enough t (stop st) = Emptied t st
@@ -369,7 +369,7 @@ module _ (o : ℕ) (J : Tasks natural) (ok : Proper J) (estOrder lctOrder : List
       pub counted : tr .changes ≤ n + 3 * (n - 1)
       pub final : tr .end ≡ done → (st : State) × Closed (n - 1) st × (tr ≡ edges.ended o J estOrder lctOrder st done)
 
-    -- L t goes
+    -- the task L t goes to Λ
     pub gray-ok : (t : ℕ) (st : State) → t < n → Closed t st → E (Th t) ≤ En t → Inv (suc t) (edges.grayed st (rank (L t)))
     gray-ok t st small c q =
         let v = c .inv in
@@ -459,7 +459,7 @@ module _ (o : ℕ) (J : Tasks natural) (ok : Proper J) (estOrder lctOrder : List
       empties = λ st′ z e. empty-ok (suc t) st′ (omega arith) (level-ok t st (stop st′) (omega arith) c z e);
     })
 
-    -- the start
+    -- the state in which a run begins
     abbrev pub st₀ : State
     st₀ = record { leaves = replicate n white; starts = tabulate (J .earliest) 0 n; posts = []; changes = n }
 

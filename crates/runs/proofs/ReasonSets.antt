@@ -1,4 +1,4 @@
--- The sets of a post are read off its reason: the post's task cannot go before the other tasks that the reason names, and of those the ones from some place on,
+-- The sets of a post are read off its reason. The post's task cannot go before the other tasks that the reason names. The ones of these from some place on,
 -- in the order of earliest starts, give the bound.
 use mathlib.Core.Path.{_≡_, refl, sym, ap, subst, _∙_}
 use mathlib.Core.Bool.{Bool, true, false, _||_, _&&_}

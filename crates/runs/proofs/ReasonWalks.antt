@@ -39,7 +39,7 @@ module _ (o : ℕ) (J : Tasks natural) (lo hi : ℕ → ℕ) where
   between [] = []
   between (k ∷ ks) = edges.atLeast o J k (lo k) ∷ edges.atMost o J k (hi k) ∷ between ks
 
-  -- which says just that of a task of the list, and nothing of any other
+  -- these atoms say just that of a task of the list, and nothing of any other
   pub between-says : (ks : List ℕ) (k : ℕ) (z : ℤ) → Admits (between ks) k z ↔ (has ks k ≡ true → (subℕ (lo k) o ≤ℤ z) × (z ≤ℤ subℕ (hi k) o))
   unfolding between
   between-says [] k z = (λ a h. clash h (has-nil k), λ f. tt)
@@ -154,7 +154,7 @@ module _ (o : ℕ) (J : Tasks natural) (ok : Proper J) (estOrder lctOrder : List
   th-out : (a d : ℕ) → a < n → Θ (T a) ≡ false → th a (suc d) ≡ th (suc a) d
   th-out a d q y = theta-skip (whiteAt ls) (taskAt J estOrder) a d (white-at a q ∙ y)
 
-  -- it has the white tasks from a on
+  -- the list has the white tasks from a on
   module _ (a d : ℕ) (all : a + d ≡ n) where
     pub listed-in : (k : ℕ) → has (th a d) k ≡ true → In J (onward a) k
     listed-in k h =
@@ -186,7 +186,7 @@ module _ (o : ℕ) (J : Tasks natural) (ok : Proper J) (estOrder lctOrder : List
     pub before : (j : ℕ) → a ≤ j → j < m → Θ (T j) ≡ true → Miss j
     pub is : Leaves m left
 
-  -- `Leaves a d m left` is what the walk leaves over the d leaves from a on, where it stops at m with `left` leaves left
+  -- `Leaves a d m left`: what the walk over d leaves from a on answers, where it stops at m, the first of the last `left`
   module _ (Hit Miss : ℕ → Type 0) (decide : (a : ℕ) → Hit a ⊎ Miss a) (clear : (a : ℕ) → Hit a → Miss a → ⊥) (Leaves : ℕ → ℕ → ℕ → ℕ → Type 0)
       (hit : (a d : ℕ) → a + suc d ≡ n → Θ (T a) ≡ true → Hit a → Leaves a (suc d) a (suc d))
       (miss : (a d m left : ℕ) → a + suc d ≡ n → a < m → Θ (T a) ≡ true → Miss a → (th (suc a) d ≡ [] → ⊥) → Leaves (suc a) d m left → Leaves a (suc d) m left)
@@ -234,11 +234,11 @@ module _ (o : ℕ) (J : Tasks natural) (ok : Proper J) (estOrder lctOrder : List
         (λ a d m left z r v u ne g. rw (th-in a d (omega arith) v) (miss a (th (suc a) d) u ne ∙ ap (λ (p : ℕ). walk p (th (suc a) d)) (omega (arith, step a (omega arith) v)) ∙ g))
         (λ a d m left e f g. rw (e, f) g) n 0 x (omega arith) (omega arith) small mem over)
 
-  -- the overload's
+  -- the walk of an overload's reason
   abbrev pub Stopped : ℕ → List Atom → Type 0
   Stopped c = Passing c (λ m. ea m + dr m) (λ m. conflict-of o J c (dr m) (ea m))
 
-  -- one step of it, where tasks are left
+  -- one step of that walk, where tasks are left
   conflict-on : (c p k : ℕ) (ks : List ℕ) → ltb c (J .earliest k + p) ≡ false → (ks ≡ [] → ⊥) → conflict o J c p (k ∷ ks) ≡ conflict o J c (p - J .duration k) ks
   conflict-on c p k [] y ne = absurd (ne refl)
   conflict-on c p k (j ∷ ks) y ne = conflict-miss o J c p k j ks y
@@ -247,7 +247,7 @@ module _ (o : ℕ) (J : Tasks natural) (ok : Proper J) (estOrder lctOrder : List
   conflict-stops c = passing c (λ m. ea m + dr m) (λ m. conflict-of o J c (dr m) (ea m)) (conflict o J c)
       (λ a ks u. conflict-hit o J c (dr a) (T a) ks (lt-ltb c (ea a + dr a) u)) (λ a ks u ne. conflict-on c (dr a) (T a) ks (le-ltb c (ea a + dr a) u) ne)
 
-  -- the first of a post's reason
+  -- the first walk of a post's reason
   module _ (i c b : ℕ) where
     abbrev pub reach : ℕ → ℕ
     reach m = min (J .earliest i) (ea m) + dr m + J .duration i
@@ -259,7 +259,7 @@ module _ (o : ℕ) (J : Tasks natural) (ok : Proper J) (estOrder lctOrder : List
     first-stops = passing c reach (λ m. propagation-of o J i b (dr m) (min (J .earliest i) (ea m))) (propagation o J i b c)
         (λ a ks u. propagation-hit o J i b c (dr a) (T a) ks (lt-ltb c (reach a) u)) (λ a ks u ne. propagation-miss o J i b c (dr a) (T a) ks (le-ltb c (reach a) u))
 
-  -- and the second, which bounds each task from a on
+  -- and the second walk, which bounds each task from a on
   module _ (b r last : ℕ) where
     abbrev pub low : ℕ → ℕ → ℕ
     low m k = cond (onward m k) (ea m) r

@@ -87,7 +87,7 @@ module _ (o : ℕ) (Z : Tasks whole) (okz : Proper Z) (deepz : (k : ℕ) → k <
   entry-high k g q h z y = let w = reflect o (Z .latest k) (at g) (above-up o (Z .earliest k) (Z .latest k) (okz .ranges k q) (deepz k q)) (instant-above o g) (omega (arith, moment-instant o g)) in
       omega (ints, w, y)
 
-  -- Atoms that say of the tasks of X that they start in the ranges lo to hi, and of no other task anything, leave just these ranges.
+  -- Atoms that keep the tasks of X in the ranges lo to hi, and say nothing of other tasks, leave just these ranges.
   module _ (atoms : List Atom) (X : TaskSet) (lo hi : ℕ → ℕ) (fits : (k : ℕ) → In J X k → lo k ≤ hi k)
       (says : (k : ℕ) (z : ℤ) → Admits atoms k z ↔ (In J X k → (at (lo k) ≤ℤ z) × (z ≤ℤ at (hi k)))) where
     abbrev B : Tasks whole

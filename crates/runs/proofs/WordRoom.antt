@@ -1,4 +1,4 @@
--- What a run writes fits the slices that it is lent: it makes fewer posts than there are tasks, so 4n words hold its posts, and 6n² the atoms of its reasons.
+-- What a run writes fits the slices that it is lent. It makes fewer posts than there are tasks: 4n words hold its posts, and 6n² the atoms of its reasons.
 use mathlib.Core.Path.{_≡_, refl}
 use mathlib.Core.List.{List, _++_}
 use Prim.Native.Nat.{ℕ, suc, _*_, _≤_}

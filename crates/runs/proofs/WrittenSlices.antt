@@ -40,7 +40,7 @@ unfolding postWords
 posts-length [] from = refl
 posts-length (q ∷ ps) from = omega (arith, posts-length ps (from + length (q .reason)))
 
--- One post more in the slice of posts: what `write_post` stores at its count,
+-- One post more in the slice of posts: what `write_post` stores after the others makes it the slice of all.
 pub post-stored : (entry : List ℤ) (ps : List Post) (p : Post) → sets (sets entry 0 (postWords 0 ps)) (4 * length ps) (fourOf (length (reasons ps)) p) ≡ sets entry 0 (postWords 0 (ps ++ (p ∷ [])))
 post-stored entry ps p =
     let z : 0 + length (postWords 0 ps) ≡ 4 * length ps = omega (arith, posts-length ps 0) in
@@ -48,7 +48,7 @@ post-stored entry ps p =
     sym (ap (sets entry 0) (posts-more ps p 0) ∙ sets-append (postWords 0 ps) (fourOf (0 + length (reasons ps)) p) entry 0
     ∙ ap (λ (k : ℕ). sets (sets entry 0 (postWords 0 ps)) k (fourOf (0 + length (reasons ps)) p)) z ∙ ap (λ (k : ℕ). sets (sets entry 0 (postWords 0 ps)) (4 * length ps) (fourOf k p)) y)
 
--- then from the front on
+-- One reason more in the slice of atoms, in the same way.
 pub reason-stored : (entry : List ℤ) (xs ys : List Atom) → sets (sets entry 0 (atomWords xs)) (3 * length xs) (atomWords ys) ≡ sets entry 0 (atomWords (xs ++ ys))
 reason-stored entry xs ys = atoms-stored entry 0 (length xs) xs ys (omega arith)
 

@@ -39,7 +39,7 @@ module _ (o : ℕ) where
       pub is : moment o at ≡ m
       pub holds : P at
 
-    -- an end is passed by what lasts d from a start on exactly where its moment is
+    -- d after a start is past an end exactly where d after the start's moment is past the end's
     past→ : (end start : ℤ) (d : ℕ) → Above o end → Above o start → end <ℤ (start +ℤ pos d) → moment o end < moment o start + d
     past→ end start d e s h = omega (arith, plus o start d s, mono< o end (start +ℤ pos d) e (plus-above o start d s) h)
 
@@ -52,7 +52,7 @@ module _ (o : ℕ) where
       above : (v : ℤ) → P v → Above o v
       back : (m : ℕ) → Q m → Is P m
 
-    -- and so are the least and the largest of which they hold
+    -- the least and the largest number with P have the least and the largest moment with Q
     module _ {P : ℤ → Type 0} {Q : ℕ → Type 0} (m : Matches P Q) where
       least→ : (v : ℤ) → Least whole P v → Least natural Q (moment o v)
       least→ v e = record { holds = m .there v (e .holds); bounds = λ w h. let g = m .back w h in omega (arith, g .is, mono o v (g .at) (e .bounds (g .at) (g .holds))) }

@@ -65,7 +65,7 @@ module _ (J : Tasks natural) (ok : Proper J) (ect : TaskSet → ℕ) (ect-is : (
   abbrev pub End : ℕ → ℕ
   End t = completion J (L t)
 
-  -- k left Λ at a level up to t, and its start is now `new`
+  -- k left Λ at a level up to t, with the start `new`
   pub record LeftLambda (t k new : ℕ) : Type 0 where
     pub level : ℕ
     pub late : place k < level
@@ -83,7 +83,7 @@ module _ (J : Tasks natural) (ok : Proper J) (ect : TaskSet → ℕ) (ect-is : (
     pub same-on : (k : ℕ) → k < J .count → t ≤ place k → now k ≡ J .earliest k
     pub inside : (k : ℕ) → k < J .count → now k ≤ J .latest k
 
-  -- L t goes to Λ, of which only the members count
+  -- the task L t goes to Λ; of Λ′ only the members count
   pub next : (t : ℕ) (Λ Λ′ : TaskSet) (now : ℕ → ℕ) → t < J .count → Facts t Λ now → ((k : ℕ) → In J Λ k → ect (Θ t with k) ≤ End t) → ect (Θ t) ≤ End t
       → ((k : ℕ) → k < J .count → Λ′ k ≡ (Λ with L t) k) → Facts (suc t) Λ′ now
   next t Λ Λ′ now small f none-passes level-fits same =

@@ -11,7 +11,7 @@ use Rattle.scheduling.specs.Scheduling.{natural, Tasks, Proper, TaskSet,
 use Rattle.scheduling.proofs.Processing.{processing-less}
 use Rattle.scheduling.proofs.Exists.{est-some, lct-some, ect-some}
 
--- The reason of a post of i at b: the tasks of Ω start at r or later, those of Ω′ at its est or later, all of Ω ends before r + p Ω + p i, and i starts at r or later.
+-- The reason of a post of i at b: the tasks of Ω start at r or later, those of Ω′ at its est or later. All of Ω ends before r + p Ω + p i, and i starts at r or later.
 module _ (J : Tasks natural) (ok : Proper J) (Ω Ω′ : TaskSet) (i r s′ b c : ℕ) (out : Outside J Ω i) (sub : Subset J Ω′ Ω) (est′ : Est J Ω′ s′) (bound : s′ + processing J Ω′ ≡ b)
     (low : (k : ℕ) → In J Ω k → r ≤ J .earliest k) (low-i : r ≤ J .earliest i) (ends : (k : ℕ) → In J Ω k → completion J k ≤ c) (over : c < r + (processing J Ω + J .duration i)) where
   -- the ranges that the atoms and the negated post give
@@ -93,7 +93,7 @@ module _ (J : Tasks natural) (ok : Proper J) (Ω Ω′ : TaskSet) (i r s′ b c 
         passes = omega (arith, li, ve .bounds b fill′, bound, processing-less J Ω′ k km, ok .lasts k (km .small));
       }
 
--- The reason of an overload: all of Ω starts at a − left or later and ends by c + right, where left + right + 1 is what a + p Ω passes c by.
+-- The reason of an overload: all of Ω starts at a − left or later and ends by c + right. What a + p Ω passes c by is left + right + 1.
 module _ (J : Tasks natural) (ok : Proper J) (Ω : TaskSet) (a c left right : ℕ) (some : NonEmpty J Ω) (low : (k : ℕ) → In J Ω k → a ≤ J .earliest k) (ends : (k : ℕ) → In J Ω k → completion J k ≤ c)
     (slack : c + (left + right) + 1 ≡ a + processing J Ω) (room : left ≤ a) where
   abbrev pub Span : Tasks natural

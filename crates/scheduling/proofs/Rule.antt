@@ -44,7 +44,7 @@ module _ (J : Tasks natural) (ok : Proper J) (s : ℕ → ℕ) (sch : Schedule J
   overload-sound Ω o =
       omega (arith, by-end Ω (o .end) (o .start + processing J Ω) (by-lct Ω (o .end) (o .lct)) (record { part = Ω; within = λ k h. h .mem; start = o .start; est = o .est; sum = refl }), o .over)
 
-  -- Nor does the checker's formula.
+  -- Where the checker's formula holds there is no schedule.
   pub check-sound : (Ω : TaskSet) (i : ℕ) → RuleFormula J Ω i → ⊥
   check-sound Ω i c =
       omega (

@@ -28,11 +28,11 @@ module _ (J : Tasks whole) (ok : Proper J) where
   pub overload-sound : (s : ℕ → ℤ) → Schedule J s → (Ω : TaskSet) → Overloads J Ω → ⊥
   overload-sound s h Ω v = natural-overload-sound (moments o J) (sound o J ok low) (λ k. moment o (s k)) (schedule→ o J ok low s h) Ω (overload→ o J ok low Ω v)
 
-  -- So it is where the checker's formula passes.
+  -- Where the checker's formula passes there is no schedule.
   pub formula-sound : (s : ℕ → ℤ) → Schedule J s → (Ω : TaskSet) (i : ℕ) → RuleFormula J Ω i → ⊥
   formula-sound s h Ω i c = natural-check-sound (moments o J) (sound o J ok low) (λ k. moment o (s k)) (schedule→ o J ok low s h) Ω i (checks→ o J ok low Ω i c)
 
-  -- And where a bound passes a latest start.
+  -- In a conflict there is no schedule: a set overloads, or a bound passes a latest start.
   pub conflict-sound : Conflict J → (s : ℕ → ℤ) → Schedule J s → ⊥
   conflict-sound (inl (Ω, v)) s h = overload-sound s h Ω v
   conflict-sound (inr (i, b, r, q)) s h = clashℤ (<ℤ-≤ℤ-trans q (rule-sound s h i b r)) (h .to i (r .outside .small))

@@ -1,4 +1,4 @@
--- How many tasks a set has, and how that changes with one task more or less: p of it, where each task lasts one unit.
+-- How many tasks a set has, and how that changes with one task more or less. The number is p of the set where each task lasts one unit.
 use mathlib.Core.Path.{_≡_, refl}
 use mathlib.Core.Bool.{true, false}
 use Prim.Native.Nat.{ℕ, suc, _≤_, _<_}

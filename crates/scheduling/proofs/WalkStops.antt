@@ -18,7 +18,7 @@ module _ (J : Tasks natural) (T rank : ℕ → ℕ) (rk : ByEarliest J T rank) (
     abbrev pub reach : ℕ → ℕ
     reach m = min (J .earliest i) (J .earliest m) + (processing J (suffix J T rank rk Θ m) + J .duration i)
 
-    -- where i is posted, some suffix J T rank rk Θ passes
+    -- where i is posted, some suffix of Θ passes lct
     pub passing : (b v : ℕ) (f : EstPlusP J (Θ with i) v) → f .part i ≡ true → i < J .count → c < v → Ect J Θ b → J .earliest i < b → (m : ℕ) × In J Θ m × (c < reach m)
     passing b v f self small over e up = by (any (f .part less i))
       where
@@ -45,7 +45,7 @@ module _ (J : Tasks natural) (T rank : ℕ → ℕ) (rk : ByEarliest J T rank) (
             let (m, mm, d) = attaining J T rank rk Θ b e in
             (m, mm, omega (arith, d, f .sum, start-i, processing-less J (f .part) i im, processing-empty J (f .part less i) none))
 
-    -- and the suffix J T rank rk Θ whose completion is ect stands at or after the first that passes
+    -- and the suffix of Θ whose est + p is ect(Θ) stands at or after the first that passes
     pub after-first : (b m j : ℕ) → Ect J Θ b → In J Θ m → In J Θ j → c < reach m → (rank j < rank m → reach j ≤ c) → J .earliest j + processing J (suffix J T rank rk Θ j) ≡ b → rank m ≤ rank j
     after-first b m j e mm jm over first att = elim (decLe (rank m) (rank j)) [
       | yes q ↦ q

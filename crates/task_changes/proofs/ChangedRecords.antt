@@ -1,4 +1,4 @@
--- Both changes keep a record lawful, and what its tasks are afterwards.
+-- A record after either change: that it stays lawful, and which durations it holds.
 use mathlib.Core.Path.{_≡_, refl, sym, ap, ap₂, subst, _∙_}
 use mathlib.Core.List.{List, [], _∷_, _++_}
 use Prim.Native.Nat.{ℕ, _+_, _-_, _≤_, _<_}
@@ -42,7 +42,7 @@ module _ {r : DisjunctivePropagator} {ds : List ℕ} (h : Holds r ds) where
   pub tasks : durationsOf r ≡ ds
   tasks = ap₂ (λ (n : ℕ) (l : List ℕ). take n l) (h .count) (h .array) ∙ placed-front ds
 
-  -- it is lawful where they are
+  -- the record is lawful where its durations are
   holds-lawful : 1 ≤ length ds → ((k : ℕ) → k < length ds → 1 ≤ getD ds k 0) → sumOf ds ≤ DURATIONS → Lawful r
   holds-lawful some lasts fits = record {
     some = omega (arith, h .count);
@@ -59,7 +59,7 @@ module _ {r : DisjunctivePropagator} {ds : List ℕ} (h : Holds r ds) where
       same : total (λ k. getD (r .durations) k 0) (r .count) ≡ sumOf ds
       same = ap₂ (λ (l : List ℕ) (n : ℕ). total (λ k. getD l k 0) n) (h .array) (h .count) ∙ sum-placed ds
 
-  -- with a task more, and with one less
+  -- the record with a task more, and with one less
   pub added-holds : (d : ℕ) → r .count < TASKS → Holds (added r d) (ds ++ (d ∷ []))
   added-holds d room =
       let size : length (ds ++ (d ∷ [])) ≡ r .count + 1 = omega (arith, length-append ds (d ∷ []), h .count) in
@@ -155,7 +155,7 @@ removable r t h =
     let (a, (b, (c, _))) = accepted (removeTests r t) refl h in
     record { lawful = lawful-is r .0 a; there = ltb-true t (r .count) b; many = omega (arith, count-is (r .count - 1) .0 c .0) }
 
--- What the calls meet.
+-- The contracts that the calls meet.
 left : {c : Changed} {after : DisjunctivePropagator} {x : Change} → c ≡ record { «record» = after; answer = x } → ChangeLeft (changeNumbers x) after c
 left e = record { answer = ap (λ (y : Changed). changeNumbers (y .answer)) e; stands = ap (λ (y : Changed). y .«record») e }
 

@@ -84,7 +84,7 @@ module _ {A : Type 0} (join : A → A → A) where
   pub own-tree : (m : ℕ) (leaf at : ℕ → A) → TreeOf join m leaf at → TreeOf join m (leavesOf m at) at
   own-tree m leaf at t = record { joins = t .joins; leaves = λ k. refl }
 
--- what joins keep of two trees' nodes holds of those over the same leaves
+-- a relation that holds between the leaves of two trees, and that joins keep, holds between their nodes
 pub over-both : {A B : Type 0} {join : A → A → A} {join′ : B → B → B} (R : A → B → Type 0) → ((l r : A) (l′ r′ : B) → R l l′ → R r r′ → R (join l r) (join′ l′ r′)) → (leaf : ℕ → A) (leaf′ : ℕ → B)
     → ((k : ℕ) → R (leaf k) (leaf′ k)) → (h a : ℕ) → R (nodeOver join leaf h a) (nodeOver join′ leaf′ h a)
 over-both {join = join} {join′} R keeps leaf leaf′ each zero a = rw (over-leaf join leaf a, over-leaf join′ leaf′ a) (each a)
@@ -153,7 +153,7 @@ module _ {A : Type 0} {size : A → ℕ} {Fair : A → Type 0} {join : A → A �
     other : (k : ℕ) → (k ≡ p → ⊥) → changed at p n k ≡ at k
     other = changed-other at p n
 
-    -- p becomes right too, and a node that was stays so unless p is its child
+    -- node p becomes right too, and a right node stays right unless p is its child
     calculated : (Right′ : ℕ → Type 0) → ((j : ℕ) → Right′ j → ((j ≡ p → ⊥) → Right j) × (p ≡ 2 * j + 1 → ⊥) × (p ≡ 2 * j + 2 → ⊥)) → During Right′ m at₀ (changed at p n)
     calculated Right′ was = record {
       joins = λ j q r. elim (ℕ-discrete j p) [
@@ -256,7 +256,7 @@ needs-upheap {join = join} {m} {at} {at′} {place} {n} t e = rw e (record {
   to = omega (arith, t .inside);
 })
 
--- what is left to show, at any type of nodes, where a loop calculates the ancestors, and where a leaf is put
+-- what is left to show, at any type of nodes: where a loop calculates the ancestors, or all inner nodes, and where a leaf is put
 pub ruleset upheaps = (needs, start, upheap-turn, node-small, left-small, right-small, upheap-left, upheap-right, next-is, end)
 
 pub ruleset rebuilds = (needs, rebuild-turn, node-small, left-small, right-small, rebuild-left, rebuild-right, goes-on)

@@ -13,7 +13,7 @@ use Rattle.trees.specs.NodeBounds.{Fair, size, Fits}
 use Rattle.trees.specs.Nodes.{joinOf}
 use Rattle.trees.specs.Puts.{whitePart, Liftable}
 
--- a node's ect and sum, with the bars of x
+-- the node with the ect and the sum of w, and the bars of x
 abbrev withBars : plain.Node → Node → Node
 withBars w x = record {
   ect = w .ect;
@@ -22,17 +22,18 @@ withBars w x = record {
   «sum_of_processing_times_bar» = x .«sum_of_processing_times_bar»;
 }
 
--- are those of one of two nodes, where its ect and sum are these
+-- self with the bars of one of two nodes is that node, where both have the same ect and sum
 pub bars-of : (first : Bool) (self a b : Node) {x y : ℕ} → x ≡ cond first (a .«ect_bar») (b .«ect_bar»)
     → y ≡ cond first (a .«sum_of_processing_times_bar») (b .«sum_of_processing_times_bar») → whitePart self ≡ whitePart (cond first a b)
     → record { ect = self .ect; «sum_of_processing_times» = self .«sum_of_processing_times»; «ect_bar» = x; «sum_of_processing_times_bar» = y } ≡ cond first a b
 bars-of true self a b ex ey e = rw (ex, ey) (ap (λ (w : plain.Node). withBars w a) e)
 bars-of false self a b ex ey e = rw (ex, ey) (ap (λ (w : plain.Node). withBars w b) e)
 
--- the parent's children, where its right one has the even number
+-- a node with an even number is its parent's right child
 even : {i : ℕ} → 0 < i → (i % 2 ≡ 1 → ⊥) → i ≡ 2 * ((i - 1) / 2) + 2
 even {i} q n = let z : i % 2 ≡ 0 = omega (arith, n) in let h : i ≡ 2 * (i / 2) = omega (arith, z) in omega (arith, h, q)
 
+-- node i is n and its sibling s: they are the parent's children, n the left one where i is odd
 module _ {at : ℕ → Node} {i : ℕ} {n : Node} (c : Liftable at i n) {s : Node} (es : s ≡ at (i + 2 * (i % 2) - 1)) where
   pub left-is : cond (eqb (i % 2) 1) n s ≡ at (2 * ((i - 1) / 2) + 1)
   left-is = ⊎-elim
@@ -46,7 +47,7 @@ module _ {at : ℕ → Node} {i : ℕ} {n : Node} (c : Liftable at i n) {s : Nod
       (λ y. rw y (c .is ∙ ap at (even (c .not-root) (eqb-false (i % 2) 1 y))))
       (bool (eqb (i % 2) 1))
 
-  -- The nodes read there, with the bars of these two.
+  -- The nodes read at the children's places are the children once they have the bars of n and s.
   module _ {p l r : ℕ} (is-up : p ≡ (i - 1) / 2) (is-left : l ≡ 2 * p + 1) (is-right : r ≡ 2 * p + 2) {x y x′ y′ : Node} (ex : x ≡ at l) (ey : y ≡ at r)
       (with-x : whitePart x ≡ whitePart (cond (eqb (i % 2) 1) n s) → x′ ≡ cond (eqb (i % 2) 1) n s)
       (with-y : whitePart y ≡ whitePart (cond (eqb (i % 2) 1) s n) → y′ ≡ cond (eqb (i % 2) 1) s n) where

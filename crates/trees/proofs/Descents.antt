@@ -1,4 +1,4 @@
--- The two searches as one: the step of each at a node, and what the choice of a child says, which test held or that none did.
+-- The two searches as one: the step of each at a node, and what it says of the bar. Either the test of a child held, or none did.
 use mathlib.Core.Path.{_≡_, refl, sym, _∙_}
 use mathlib.Core.Bool.{Bool, true, false, _&&_, not}
 use mathlib.Core.Logic.{inl, inr}
@@ -60,6 +60,7 @@ tested-yes : (child : Node) (value this : ℕ) → tested child value this ≡ t
 unfolding tested
 tested-yes child value this t = eqb-true value this ((and-true (not (isEmpty child)) (eqb value this) t) .1)
 
+-- the bars of an empty node are 0
 empty-bars : (n : Node) → isEmpty n ≡ true → (n .«ect_bar» ≡ 0) × (n .«sum_of_processing_times_bar» ≡ 0)
 unfolding isEmpty
 empty-bars n t =
@@ -69,7 +70,7 @@ empty-bars n t =
     let v = and-true c d ((and-true b (c && d) ((and-true (eqb (n .ect) 0) (b && (c && d)) t) .1)) .1) in
     (eqb-true (n .«ect_bar») 0 (v .0), eqb-true (n .«sum_of_processing_times_bar») 0 (v .1))
 
--- and a fair node without a sum bar is empty
+-- and a fair node whose sum bar is 0 is empty
 no-task : (n : Node) → Fair n → n .«sum_of_processing_times_bar» ≡ 0 → isEmpty n ≡ true
 unfolding isEmpty
 no-task n f z =
@@ -88,14 +89,14 @@ tested-no child value this t e = elim (and-false (not (isEmpty child)) (eqb valu
     [ inl u ↦ empty-bars child (not-not (isEmpty child) u) | inr u ↦ absurd (eqb-false value this u e) ]
 
 module _ (n l r : Node) where
-  -- the values of a bar that has its gray task on the left, and on the right in the sum
+  -- the value of a bar with its gray task on the left, and of one with its gray task in the sum on the right
   abbrev pub in-left : By → ℕ
   in-left by = barOf by l + r .«sum_of_processing_times»
 
   abbrev pub in-right : By → ℕ
   in-right by = plainOf by l + r .«sum_of_processing_times_bar»
 
-  -- what a step says: the value that the bar is, or that it is none of them
+  -- what a step says: which value the bar has, or that each test failed
   abbrev pub Fact : EctBarDescent → By → Type 0
   Fact bar.Left by = barOf by n ≡ in-left by
   Fact bar.RightP by = barOf by n ≡ in-right by

@@ -141,7 +141,7 @@ pub height-inside : (m h i : ℕ) → HasHeight m h i → i ≤ 2 * m
 height-inside m zero i s = omega (arith, s .to, leftmost-leaf i, once)
 height-inside m (suc h) i s = omega (arith, inner-height m h i s)
 
--- every node of a tree has a height: that of its parent, less one
+-- a child has a height where its parent has one: that of the parent, less one
 below : (m p i : ℕ) → p < m → (i ≡ 2 * p + 1) ⊎ (i ≡ 2 * p + 2) → (h : ℕ) × HasHeight m h p → (h : ℕ) × HasHeight m h i
 below m p i q side (zero, s) = absurd (omega (arith, leaf-at m p s))
 below m p i q (inl z) (suc h, s) = (h, rw z (left-height m h p s))
@@ -150,7 +150,7 @@ below m p i q (inr z) (suc h, s) = (h, rw z (right-height m h p s))
 side : (i : ℕ) → (i ≡ 0 → ⊥) → (i ≡ 2 * ((i - 1) / 2) + 1) ⊎ (i ≡ 2 * ((i - 1) / 2) + 2)
 side i q = elim (ℕ-discrete i (2 * ((i - 1) / 2) + 1)) [ yes z ↦ inl z | no z ↦ inr (omega arith) ]
 
--- by f steps down from the root at most
+-- so every node of a tree has a height, after at most f steps down from the root
 pub height-of : (m H : ℕ) → m + 1 ≡ width H → (f i : ℕ) → i ≤ f → i ≤ 2 * m → (h : ℕ) × HasHeight m h i
 height-of m H e zero i q r = let z : i ≡ 0 = omega arith in rw z (H, root-height m H e)
 height-of m H e (suc f) i q r = elim (ℕ-discrete i 0) [

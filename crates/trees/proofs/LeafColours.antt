@@ -50,7 +50,7 @@ leaf-size leaves.empty e p = omega arith
 leaf-size leaves.white e p = omega arith
 leaf-size leaves.gray e p = omega arith
 
--- without their gray tasks, they are the leaves of the theta tree
+-- without its gray task a leaf is that of the theta tree
 pub plain-leaf : (c : Leaf) (e p : ℕ) → plainLeaf (inTheta c) e p ≡ whitePart (leafNode c e p)
 plain-leaf leaves.empty e p = refl
 plain-leaf leaves.white e p = refl

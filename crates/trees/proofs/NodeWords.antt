@@ -91,7 +91,7 @@ stored ws i n h l = rw is (
     other : (j k : ℕ) → (j ≡ i → ⊥) → 4 * j ≤ k → k < 4 * j + 4 → getD out k 0 ≡ getD ws k 0
     other j k ne lo hi = sets-out vs ws (4 * i) k (elim (decLt j i) [ yes q ↦ inl (omega arith) | no q ↦ inr (omega arith) ])
 
--- and one whose other values are those of n already
+-- and its bars alone, where the words have its ect and sum already
 pub bars-stored : (ws : List ℕ) (i : ℕ) (n : Node) → i < NODES → length ws ≡ TREEWORDS → whitePart (nodeAt ws i) ≡ whitePart n
     → (nodeAt (set (set ws (4 * i + 2) (n .«ect_bar»)) (4 * i + 3) (n .«sum_of_processing_times_bar»)) ≡ changed (nodeAt ws) i n)
     × (length (set (set ws (4 * i + 2) (n .«ect_bar»)) (4 * i + 3) (n .«sum_of_processing_times_bar»)) ≡ TREEWORDS)

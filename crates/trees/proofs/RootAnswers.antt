@@ -133,7 +133,7 @@ module _ (J : Tasks natural) (ok : Proper J) (estOrder : List ℕ) (rk : ByEarli
     past : (j : ℕ) → J .count ≤ j → getD ls j empty ≡ empty
     past j q = List·getD-eq-default ls empty (omega (arith, s .size))
 
-    -- a colour by place, and past the tasks none
+    -- a colour by place; past the tasks no leaf has it
     module _ (f : Leaf → Bool) (S : TaskSet) (is : (k : ℕ) → k < J .count → f (getD ls (rank k) empty) ≡ S k) (blank : f empty ≡ false) where
       colour-at : (j : ℕ) → j < J .count → f (getD ls j empty) ≡ S (T j)
       colour-at j q = subst (λ (x : ℕ). f (getD ls x empty) ≡ S (T j)) (rk .back j q) (is (T j) (rk .task j q))
@@ -197,7 +197,7 @@ module _ (J : Tasks natural) (ok : Proper J) (estOrder : List ℕ) (rk : ByEarli
             has = joined-new J T rank ok rk (Ω with i) x (scan J T rank (Ω with i) x) small self f;
           }) (omega (arith, same, blank))
 
-      -- one leaf after it more
+      -- one more leaf after x
       one-more : (m : ℕ) → suc x + m < J .count → Holding i (suc x + m) (value m) → (Ω (T (suc x + m)) ≡ true) ⊎ (Ω (T (suc x + m)) ≡ false) → Holding i (suc (suc x + m)) (value (suc m))
       one-more m q h (inl y) = let d : ℕ = suc x + m in to-value (record {
         fill = joined J T rank ok rk (Ω with i) d (value m) q (with-old Ω i (T d) y) (h .fill);
@@ -377,7 +377,7 @@ module _ (J : Tasks natural) (ok : Proper J) (estOrder : List ℕ) (rk : ByEarli
         let same : bar-word ≡ word = omega (arith, f, root-holds .ect, root-holds .ect-bar, plain-least) in
         ap decoded same
 
-    -- A task found: it is gray and not white, and a set of white tasks with it, and with it in the set, has an est + p that is no less than the bar.
+    -- A task found: it is gray and not white. Some set of this task and white ones has an est + p that is no less than the bar.
     pub record Found (x : ℕ) : Type 0 where
       pub small : x < J .count
       pub gray : In J Λ (T x)

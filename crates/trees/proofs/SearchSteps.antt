@@ -71,7 +71,7 @@ module _ (leaf : ℕ → Node) where
   leaf-search sums a = elim (bool (gray (leaf a))) [ inl t ↦ rw (t, stepP, searchP) | inr t ↦ rw (t, stepP, searchP) ]
   leaf-search ects a = elim (bool (gray (leaf a))) [ inl t ↦ rw (t, stepEct, searchEct) | inr t ↦ rw (t, stepEct, searchEct) ]
 
-  -- What a step at that node says of the search from there: it goes down to a child, it ends at a leaf, or it ends with none.
+  -- What a step says of the search from the node of height h: it goes down to a child, ends at a leaf, or ends with none.
   abbrev pub After : By → ℕ → ℕ → EctBarDescent → Type 0
   After by h a bar.Left = (1 ≤ h) × (searchBy by h a ≡ searchBy by (h - 1) a)
   After by h a bar.RightP = (1 ≤ h) × (searchBy by h a ≡ searchP leaf (h - 1) (a + width (h - 1)))
@@ -108,7 +108,7 @@ module _ {m : ℕ} {at : ℕ → Node} where
     node-fits : (g j : ℕ) → HasHeight m g j → Fits size Fair (at j)
     node-fits g j t = rw (node-is joinOf m at (s .tree) g j t) (over-fits additive (leavesOf m at) (s .bounded) g (leftmost g j - m))
 
-    -- an inner node has a height above 0
+    -- an inner node has a height above 0, and so its children fit
     pub child-fits : i < m → Fits size Fair (at (2 * i + 1)) × Fits size Fair (at (2 * i + 2))
     child-fits q = by h (s .has-height)
       where
@@ -135,7 +135,7 @@ module _ {m : ℕ} {at : ℕ → Node} where
     pub right-small : {r : ℕ} → b ≡ false → r ≡ 2 * i + 2 → r < NODES
     right-small is e = omega (arith, leb-false m i (sym test ∙ is), s .room)
 
-  -- It is what stands around the node over its leaves.
+  -- What is read is what stands around the node over its leaves.
   module _ {h i : ℕ} (s : Searchable m h i at) where
     around-is : (g : ℕ) → HasHeight m g i → aroundOf m at i ≡ aroundOver (leavesOf m at) g (leftmost g i - m)
     unfolding aroundOf
@@ -167,7 +167,7 @@ module _ {m : ℕ} {at : ℕ → Node} where
     abbrev a : ℕ
     a = leftmost h i - m
 
-    -- The search below a child is the one below the node: `below` is it, by first leaf.
+    -- The search below a child, `below` by first leaf, is the search below the node.
     to-left : {j r : ℕ} {whole : Option ℕ} (below : ℕ → Option ℕ) → (1 ≤ h) × (whole ≡ below a) → j ≡ 2 * i + 1 → r ≡ foundAt m (below (leftmost (h - 1) j - m)) → r ≡ foundAt m whole
     to-left {j} below (above, is) e found =
         let z : h ≡ suc (h - 1) = omega arith in

@@ -102,7 +102,7 @@ module _ (J : Tasks natural) (estOrder : List ℕ) where
 -- the theta-lambda tree --------------------------------------------------------------------------------------------------------
 
 module _ {J : Tasks natural} {estOrder : List ℕ} (lim : Limited J estOrder) {ls : List Leaf} {inner : ℕ} {words : List ℕ} (t : IsTree J estOrder ls inner words) where
-  -- the leaf of a task may get a colour: white when Theta is filled, gray by `add_to_lambda`, empty by `remove_from_lambda`
+  -- the leaf of a task may get a colour: gray by `add_to_lambda`, empty by `remove_from_theta` and `remove_from_lambda`
   pub may-put : (k : ℕ) → k < J .count → (c : Leaf) {n : Node} → n ≡ leafNode c (startAt J estOrder k) (durationAt J estOrder k) → Puttable inner words k n
   may-put k q c {n} z = record {
     length = t .words-length;

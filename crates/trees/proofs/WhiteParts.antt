@@ -28,11 +28,11 @@ module _ {m : ℕ} {at at′ : ℕ → Node} (p : ℕ) (n : Node) (e : at′ ≡
   bars-changed : WhiteJoins m at′
   bars-changed = record { joins = λ i q. white-is i ∙ w .joins i q ∙ sym (ap₂ plainJoinOf (white-is (2 * i + 1)) (white-is (2 * i + 2))) }
 
--- a leaf is put: all nodes were joins,
+-- a leaf is put: without their gray tasks the nodes stay joins,
 pub leaf-bars : {m : ℕ} {at at′ : ℕ → Node} {place : ℕ} {n : Node} → CanPut size Fair joinOf m at place n → at′ ≡ changed at (m + place) n → whitePart (at (m + place)) ≡ whitePart n → WhiteJoins m at′
 leaf-bars {m} {at} {at′} {place} {n} t e same = bars-changed (m + place) n e same (record { joins = λ i q. ap whitePart (t .tree .joins i q) ∙ join-white (at (2 * i + 1)) (at (2 * i + 2)) })
 
--- and an ancestor is calculated, which is one without the gray tasks
+-- and they do where an ancestor is calculated
 module _ {m : ℕ} {at₀ at : ℕ → Node} {i : ℕ} (c : DuringUpheap additive m at₀ at i) (q : i ≡ 0 → ⊥) where
   pub liftable : {n : Node} → n ≡ at i → Liftable at i n
   liftable e = let t = upheap-turn additive c q refl in record { not-root = omega (arith, q); small = omega (arith, t .inner, t .room); is = e; left = t .left; right = t .right }
@@ -47,7 +47,7 @@ module _ {m : ℕ} {at₀ at : ℕ → Node} {i : ℕ} (c : DuringUpheap additiv
     pub next-up : {at′ : ℕ → Node} → at′ ≡ changed at p n → DuringUpheap additive m at₀ at′ p
     next-up e = next-is additive c q is-up (omega arith) (omega arith) refl refl en e
 
--- the ancestor is what is carried up next
+-- the ancestor that is stored is the node that is carried up next
 pub carried : (at : ℕ → Node) {at′ : ℕ → Node} {p : ℕ} {n : Node} → at′ ≡ changed at p n → n ≡ at′ p
 carried at {at′} {p} {n} e = sym (ap (λ (f : ℕ → Node). f p) e ∙ changed-here at p n)
 

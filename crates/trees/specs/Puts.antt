@@ -50,7 +50,7 @@ pub record Laid (inner : ℕ) (before after : List ℕ) (place : ℕ) (n : Node)
   pub nodes : nodeAt after ≡ changed (nodeAt before) (inner + place) n
   pub length : length after ≡ TREEWORDS
 
--- the first two of a theta tree
+-- `Puttable` and `Put` of a theta tree
 pub record PlainPuttable (inner : ℕ) (words : List ℕ) (place : ℕ) (n : plain.Node) : Type 0 where
   pub takes : CanPut plainSize PlainFair plainJoinOf inner (plainAt words) place n
   pub length : length words ≡ THETAWORDS

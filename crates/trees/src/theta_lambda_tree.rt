@@ -384,7 +384,7 @@ impl ThetaLambdaTree {
         }
     }
 
-    // The parent of node i, which is n. The bars come from n and its sibling: in the array those of n were stored just now, and reading them would wait for it.
+    // The parent of node i, where node i is n. The bars come from n and its sibling: those of n were stored last, and reading them would wait for the store.
     fn joined_above(nodes: &[u32; TREEWORDS], i: usize, n: Node) -> Node
         requires { ⌜ Liftable (nodeAt (now nodes)) i n ⌝ }
         ensures { λ r. ⌜ r ≡ joinOf (nodeAt (now (nodes .entry)) (2 * ((i - 1) / 2) + 1)) (nodeAt (now (nodes .entry)) (2 * ((i - 1) / 2) + 2)) ⌝ }

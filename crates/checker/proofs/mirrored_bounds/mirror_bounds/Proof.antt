@@ -34,7 +34,7 @@ loop-holds c =
     let b = boundsIn (a .bounded .now) (a .est .now) (a .lst .now) in
     (omega arith, λ i. boundsIn (a .bounded .now) (sym (filled-none (est-at b (a .durations .now)) (a .est .now)) i) (sym (filled-none (lst-at b (a .durations .now)) (a .lst .now)) i))
 
--- at a turn: what was lent, and the bounds of the task, which are still those
+-- at a turn: what was lent, and the bounds of the task, which are those lent
 module _ (c : tie.In-loop Inv-loop μ-loop) where
   abbrev lent : Bounds
   lent = let a = c .before .before .args in boundsIn (a .bounded .now) (a .est .now) (a .lst .now)

@@ -50,7 +50,7 @@ end c = getD (start c .args .lct .now) (task c) 0
 more : (c : tie.In-loop Inv-loop μ-loop) → c .before .loop .index + 1 < start c .args .size .leaves
 more c = omega (arith, c .before .loop .inv .count)
 
--- where the level was entered, from its test and from the move of its task
+-- where the level was entered, from its test and from where its task left Theta
 abbrev entered : tie.After-overloads Inv-loop μ-loop → tie.In-loop Inv-loop μ-loop
 entered c = c .before .before .before .before
 

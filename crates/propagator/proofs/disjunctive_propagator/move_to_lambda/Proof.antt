@@ -1,4 +1,4 @@
--- Joined inner nodes that are needed again stay so by `add_to_lambda`; else the leaf is laid, and `rebuild` joins all inner nodes where they are needed.
+-- Where the inner nodes stay joined, `add_to_lambda` joins them; else the gray leaf is laid, and `rebuild` joins them where they are to be joined.
 use mathlib.Core.Path.{refl}
 use borrow.Author.Needs.{needs}
 use Rattle.integers.proofs.Bools.{clash}
@@ -8,7 +8,7 @@ use Rattle.propagator.proofs.LeavingTheta.{shown, shown-leaves, placed,
 use Rattle.propagator.proofs.disjunctive_propagator.move_to_lambda.Statement.{statement}
 use Rattle.propagator.proofs.disjunctive_propagator.move_to_lambda.Tie as tie
 
--- the place was read, from where the inner nodes are joined and needed, and from where the leaf is laid
+-- the place was read, from where the inner nodes stay joined, and from where the leaf is laid
 abbrev read : tie.Then2 → tie.After-leaf-of
 read c = c .before .before .before .before
 

@@ -1,5 +1,4 @@
--- As `move_to_lambda`, with the empty leaf: it may be put anywhere.
-use mathlib.Core.Path.{refl}
+-- Where the inner nodes stay joined, `remove_from_theta` joins them; else the empty leaf is laid, and `rebuild` joins them where they are to be joined.
 use borrow.Author.Needs.{needs}
 use Rattle.integers.proofs.Bools.{clash}
 use Rattle.trees.specs.Leaves.{empty}

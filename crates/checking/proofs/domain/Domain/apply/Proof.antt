@@ -18,7 +18,7 @@ use borrow.Author.Needs.{needs}
 use Rattle.checking.proofs.domain.Domain.apply.Statement.{statement}
 use Rattle.checking.proofs.domain.Domain.apply.Tie as tie
 
--- the value as it is read is near the limits, and a little further out
+-- the value as it is read is near the limits, and so within wider ones
 near : (s : tie.Start) → Within (VALUE + 1) (toZ w32 (ofZ w32 (s .args .value)))
 near s = rw (back (s .fits .value)) (s .pre .1)
 
@@ -28,7 +28,7 @@ nearby s = wider (VALUE + 1) (VALUE + 2) _ (omega arith) (near s)
 tighten-upper-bound-requires-2 : tie.Need-tighten-upper-bound-requires-2
 tighten-upper-bound-requires-2 c κs = let s = c .before .before .before in (rw (c .tighten-lower-bound2 .ensures) (lower-leaves (s .args .self) _ (s .pre .0) .tight), nearby s)
 
--- an answer for the value as it is read
+-- an answer for the value as it is read is one for the value
 answers : (s : tie.Start) {r : Reduced} → let a = s .args in r ≡ reduced (a .self) (kindOf (a .comparison)) (toZ w32 (ofZ w32 (a .value))) → r ≡ reduced (a .self) (kindOf (a .comparison)) (a .value)
 answers s e = as-read (reduced (s .args .self) (kindOf (s .args .comparison))) (s .fits .value) e
 

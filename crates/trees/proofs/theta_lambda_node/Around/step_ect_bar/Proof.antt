@@ -1,4 +1,4 @@
--- By what was read: a gray leaf ends the search by ects, an inner node hands it to a child.
+-- By what was read: at a gray leaf the search by ects ends, and from an inner node it goes to a child.
 use mathlib.Core.Path.{sym, ap, _∙_}
 use borrow.Author.Needs.{needs}
 use Rattle.trees.specs.SearchSteps.{stepAtEct}

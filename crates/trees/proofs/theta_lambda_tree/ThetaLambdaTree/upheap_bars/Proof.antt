@@ -1,4 +1,4 @@
--- The loop's invariant is that of `upheap`, that without its gray tasks each node is the join of its children, and that the node carried up is node i.
+-- The loop's invariant is that of `upheap`, and the node carried up is node i. Without their gray tasks, all inner nodes are the joins of their children.
 use mathlib.Core.Path.{_≡_}
 use lib.ListN.{length}
 use Rattle.integers.specs.Limits.{TREEWORDS}
