@@ -76,7 +76,7 @@ was-refused before es ls bars c h e = record {
   no-schedule = λ z. absurd (h z);
 }
 
--- where the test answers that something did
+-- where the overload test answers a refusal
 pub where-refused : (before : DisjunctivePropagator) (es ls : List ℤ) (bars : Bool) {o : tests.Overload} → OverloadTested before es ls bars o → (number : ℕ) → o ≡ test.Refused number
     → (c : Conflict) → c ≡ noConflict (Refused number) → ConflictFound before es ls bars c
 where-refused before es ls bars t number z c e =
@@ -172,7 +172,7 @@ module _ (before : DisjunctivePropagator) (es ls : List ℤ) (bars : Bool) (acce
             (subst (λ (d : Conflict). LateRight Z d (p .task) (Z .latest (p .task)) (p .bound)) (sym shown)
             (late-right Z (proper-whole before es ls a long) (above before es ls a long) few fits p (sets before es ls a long (length (traceOf before es ls .posts) - 1) last) edge passes))
 
--- The same by what the overload test has answered.
+-- The answer, by what the overload test has answered.
 module _ (before : DisjunctivePropagator) (es ls : List ℤ) (bars : Bool) (long : length (before .durations) ≡ TASKS) {o : tests.Overload} (t : OverloadTested before es ls bars o) where
   passed : overloadNumbers o .number ≡ 0 → inputNumber before es ls bars ≡ 0
   passed z = not-refused t z

@@ -28,6 +28,6 @@ module _ (s : Starts) (is : Is S.the-row s (machS s ∷ [])) (few : s .count ≤
   pub latest-lent : s .count ≡ length (take (s .count) (s .latest))
   latest-lent = sym (length-take-le (s .count) (s .latest) latest-there)
 
--- and the starts that stand beside the bars' answer
+-- the starts beside the bars' answer have the starts' type too
 pub of-bars : (r : StartsWithBars) → Is B.the-row r (machB r ∷ []) → Is S.the-row (r .starts) (machS (r .starts) ∷ [])
 of-bars r is = LL.owed B.the-type B′.the-laws r _ is .0

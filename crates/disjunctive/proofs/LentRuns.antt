@@ -31,7 +31,7 @@ use Rattle.runs.specs.declared.outcome.Outcome.{Outcome}
 use Rattle.precedences.specs.declared.answers.Precedences.{Precedences}
 
 module _ (before : DisjunctivePropagator) (ys : List Range) (n : ℕ) (es ls : List ℤ) (t : TakenInto ys (replicate TASKS (pos 0)) (replicate TASKS (pos 0)) n es ls) where
-  -- a core left zs of the first n numbers of one of the arrays: they are stored as starts are of which its contract says the same
+  -- A core left zs in the first n places of one of the arrays. To store them is to store starts of all ranges, of which the core's contract says the same.
   left-stored : (Said : List ℤ → List ℤ → List ℤ → Type 0) (us : List ℤ) → length us ≡ TASKS → (zs : List ℤ) → length zs ≡ length (take n us) → Said (take n es) (take n ls) zs
       → (with : List Range → List ℤ → List Range) (own : List ℤ) → length own ≡ length ys → with ys [] ≡ ys → with ys own ≡ ys
       → (TASKS < length (earliests ys) → Said [] [] [] → Said (earliests ys) (latests ys) own)

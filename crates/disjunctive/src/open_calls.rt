@@ -1,7 +1,7 @@
 // The open calls on lent data: a record, and a slice of ranges, one for each task. Here are the run and the mirrored pass, which
-// change the ranges, and the overload test, which does not; below, the calls by precedences, those of conflicts and those on a fixed schedule.
+// change the ranges, and the overload test, which does not. Below are the calls by precedences, those of conflicts and those on a fixed schedule.
 // The core takes the record by value and the starts as slices of numbers. Here the ranges are taken apart for it, and what it leaves is stored back.
-// The run is lent the record as `&mut`, as the source's is, and stores the one that its core returns; the others are lent it as `&`.
+// The run is lent the record as `&mut`, as the source's is, and stores the record that its core returns. The other calls are lent the record as `&`.
 pub mod by_precedence;
 pub mod of_conflicts;
 pub mod of_fixed_schedules;

@@ -120,7 +120,7 @@ module _ (r : DisjunctivePropagator) (es ls : List ℤ) {m : ℕ} (e : m ≡ ran
             order = λ _. sorted;
           }
 
--- The sole ground for each number of a schedule, which no later test has: all before it hold, and its own does not.
+-- The sole ground for each number of a schedule that no later test has: all tests before it pass, and its own fails.
 pub record SoleGrounds (r : DisjunctivePropagator) (es ls : List ℤ) (number : ℕ) : Type 0 where
   pub refused-20 : number ≡ 20 ↔ (Lawful r → ⊥)
   pub refused-10 : number ≡ 10 ↔ (Lawful r × (CountsFit (r .count) es ls → ⊥))
@@ -128,7 +128,7 @@ pub record SoleGrounds (r : DisjunctivePropagator) (es ls : List ℤ) (number : 
   pub refused-4 : number ≡ 4 ↔ (Lawful r × (CountsFit (r .count) es ls × (StartsFit es ls × (RangesFit es ls → ⊥))))
   pub refused-14 : number ≡ 14 ↔ (Lawful r × (CountsFit (r .count) es ls × (StartsFit es ls × (RangesFit es ls × (Fixed r es ls → ⊥)))))
 
--- Where other tests follow. What is wrong with the schedule goes before; where one test follows, it decides then.
+-- Other tests follow: what is wrong with the schedule goes before them. Where the schedule passes and one test follows, that one decides.
 module _ (r : DisjunctivePropagator) (es ls : List ℤ) (after : List Test) where
   pub schedule-refuses : {f : FixedOrder} → Tested es (fixedNumber r es ls) f → (f .number ≡ 0 → ⊥) → Tested es (refusal (fixedTests r es ls ++ after)) f
   schedule-refuses s not = tested-not refl not (tests-first (fixedTests r es ls) (s .number) after not)

@@ -1,4 +1,5 @@
--- A call in a walk, by its contract: what it returns is owned, and beside that there are the tokens, what is said of what was lent for good, and what the call ensures.
+-- A call in a walk, by its contract: what the call returns is owned.
+-- Beside that stand the tokens, what is said of what was lent for good, and what the call ensures.
 use Rattle.ranges.proofs.Prelude
 use Prelude.{List, [], _∷_, URA, Name, Operand, Place, Body, seq, call, Val, id⊢, Heap, Calls, Loops, Env, Atoms, FmC, Given, Item, ‵, raw, _⊛_, some, later, _$_, move, use1, typeAt, split, pick}
 use Prelude.{await, PostOf as Post, runs, lands, Seq, Opds, Is, shows, peeks, calls-at, Ended, Clauses, closing, lasts, tripleOf, Contract, Triple}

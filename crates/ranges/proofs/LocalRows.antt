@@ -1,4 +1,4 @@
--- A local array of numbers in a walk: written whole, it is the row of its numbers, which a loop reads and stores one by one; and the row is the array again, to be copied whole.
+-- A local array of numbers in a walk. Written whole, it is the row of its numbers, which a loop reads and stores one by one. The row is the array again, to be copied whole.
 use Rattle.ranges.proofs.Prelude
 use Prelude.{_≡_, subst, refl, List, [], _∷_, map, ℕ, zero, suc, lit<, ℤ, pos, length, replicate, URA, fullShare, Ty, w32, tyInt, tyArray, Val, vint, ofZ, ent, guard, guardI, fsep, fat, Heap}
 use Prelude.{Atoms, sem, Given, ‵, _$_, _∵_, !, qed, move, fsplit, fjoin, drop, done, use1, rewrite, fpick, fpack, feqI, suffices, arr-parts, owned, peeks, RattleType, Is, shows, cellAt, partAt}

@@ -1,4 +1,4 @@
--- A call in a walk of a function that takes one value and returns another, of which its contract says one thing.
+-- The call, in a walk, of a function from one value to another: its contract says one thing of the two.
 use Rattle.ranges.proofs.Prelude
 use Prelude.{List, [], _∷_, URA, Body, Name, Operand, Place, seq, call, Val, emp, id⊢, Heap, Env, Calls, Loops, Atoms, fact, FmC, Given, Item, ‵, Seq, _$_, move, fjoin, drop, use1, raw, join}
 use Prelude.{PostOf as Post, runs, lands, Opds, nothing, heard, RattleType, Is, yes, plain, Contract, Triple, Ended, Clauses, closing, tripleOf}

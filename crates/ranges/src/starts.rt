@@ -17,7 +17,7 @@ pub struct Starts {
     pub latest: [i32; TASKS],
 }
 
-// The same, and whether the bars of the ranges fit.
+// Ranges, taken apart, and whether their bars fit.
 pub struct StartsWithBars {
     pub starts: Starts,
     pub bars_fit: bool,

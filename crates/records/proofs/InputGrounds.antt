@@ -1,4 +1,4 @@
--- The sole ground for each number of a record, its ranges and their bars: all before it hold, and its own does not.
+-- The sole ground for each number of a record, its ranges and their bars: all tests before it pass, and its own fails.
 use mathlib.Core.Path.{_≡_}
 use mathlib.Core.Bool.{Bool, true, false}
 use mathlib.Core.Logic.{_↔_}

@@ -1,4 +1,4 @@
--- Tests, and others after them: what they refuse goes before, and where they pass and one test follows, it decides.
+-- Tests, and others after them. Where the first tests refuse, their number is that of all; where they pass and one test follows, that one decides.
 use mathlib.Core.Path.{_≡_, sym, _∙_}
 use mathlib.Core.Bool.{Bool, true, false}
 use mathlib.Core.List.{List, [], _∷_, _++_}

@@ -75,7 +75,7 @@ pub fn total_of(durations: &[u32; TASKS], n: usize) -> u64
     sum
 }
 
-// Whether that sum is within the limit.
+// Whether the sum of the first n durations is within the limit.
 fn sum_fits(durations: &[u32; TASKS], n: usize) -> bool
     requires { ⌜ n ≤ TASKS ⌝ }
     ensures { λ r. ⌜ r ≡ sumFits (λ k. getD (now (durations .entry)) k 0) n ⌝ }
@@ -83,7 +83,7 @@ fn sum_fits(durations: &[u32; TASKS], n: usize) -> bool
     total_of(durations, n) <= DURATIONS as u64
 }
 
-// Whether a stored total is that sum.
+// Whether a stored total is the sum of the first n durations.
 fn total_true(stored: u32, durations: &[u32; TASKS], n: usize) -> bool
     requires { ⌜ n ≤ TASKS ⌝ }
     ensures { λ r. ⌜ r ≡ totalTrue stored (now (durations .entry)) n ⌝ }

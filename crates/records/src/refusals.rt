@@ -21,7 +21,7 @@ pub fn within(x: i32, low: i32, high: i32) -> bool
     )
 }
 
-// Whether every number is. All are read, with no branch at any, so that several are compared at once.
+// Whether every number is from low to high. All are read, with no branch at any, so that several are compared at once.
 pub fn all_within(xs: &[i32], low: i32, high: i32) -> bool
     ensures { λ r. ⌜ r ≡ allBelow (withinAt low high (now (xs .entry))) (length (now (xs .entry))) ⌝ }
 {

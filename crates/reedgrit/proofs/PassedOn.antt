@@ -40,8 +40,8 @@ use Rattle.disjunctive.proofs.Locals.{Cell, cellAt, store, passing as passed-in
 use Rattle.disjunctive.proofs.Locals.{stored, finds-local, copied, allocates, passes-params, frees-locals}
 use Rattle.reedgrit.proofs.Ways.{Way, wayTys, lentTys, operands, lends, Found, at-of, AllFound, all-at, LentAt, lent-cells, runs-lent}
 
--- An exported call over an open one: the open call's signature, the machine values of its arguments, and its contract. Then the numbers of an answer, and how
--- each argument is passed on.
+-- An exported call over an open one: the open call's signature, and the types of its answer and of the numbers.
+-- Then the machine values of the arguments, the numbers of an answer, what the open call promises, and how each argument is passed on.
 pub record Passing : Type 2 where
   pub lent : Ended
   pub O : RattleType
@@ -52,7 +52,7 @@ pub record Passing : Type 2 where
   pub Promised : (κs : Lfts (lent .signature .lifetimes)) → Args (lent .signature) κs → O .Denot → AtExit lent κs → Type 0
   pub ways : List Way
 
--- the type of a local that holds a value of one
+-- the type of a local that holds a value of the type R
 abbrev tyOf : RattleType → Ty
 tyOf R = getD (R .mir) 0 tyUnit
 
@@ -156,7 +156,7 @@ module _ {M : Type 1} {𝓤 : URA M} {H : Heap 𝓤} {A : Atoms 𝓤} {K : Type 
       same = qed W (‵ (fsep F₁ (fsep F₂ (fsep F₃ (fsep (fsep X (feq ℕ l m)) Y)))) ∷ []) ∵
           fsplit ! $ move ! (1 ∷ []) $ fsplit ! $ move ! (1 ∷ []) $ fsplit ! $ move ! (1 ∷ []) $ fsplit ! $ fsplit ! $ move ! (1 ∷ []) $ feqL ! (λ e. by ! (factI 𝓤 (l ≡ m) _ e))
 
--- ---- the exported call's code, which is compared with the compiled one, and where its locals are found: each is `refl` once the types are written out
+-- ---- the exported call's code, which is compared with the compiled one, and where its locals are found. Each place is `refl` once the types are written out
 module _ (D : Passing) where
   abbrev answer-local : ℕ
   answer-local = suc (length (D .ways))
@@ -190,7 +190,7 @@ module _ (D : Passing) where
     abbrev at-call : Lending → List Cell
     at-call = lent-cells (D .ways) 1 (suc answer-local) E entered-with
 
-    -- the locals are found of what is lent again, of what the open call is passed, and of both answers; and none is lost
+    -- where the locals are found: of what is lent again, of what the open call is passed, and of both answers. No local is lost
     abbrev Laid : Type 0
     Laid = (e : Lending) × (AllFound E (at-call e) (operands (D .ways) 1 (suc answer-local)) (arguments κs a) × Found E (at-call e) answer-local (tyOf (D .O)) none
         × ((v : Val) → cellAt (store (at-call e) answer-local v) 0 ≡ some (tyOf (D .N), bs .0, none)) × ((v w : Val) → envOf (store (store (at-call e) answer-local v) 0 w) ≡ E))

@@ -1,4 +1,4 @@
--- How the arguments of an exported call are passed on in its MIR: where they stand, what is lent again of them, through which locals, and the walk over that.
+-- How the arguments of an exported call are passed on in its MIR: where they stand, and which are lent again, through which locals. Then the walk over that.
 use mathlib.Core.Path.{_≡_, refl, ap}
 use Prim.Native.Nat.{ℕ, suc, _<_, _^_}
 use mathlib.Core.List.{List, [], _∷_}
@@ -24,8 +24,8 @@ use Rattle.ranges.proofs.range.Range.Laws as T′
 use Rattle.disjunctive.proofs.Locals.{Cell, cells, cellAt, store, At, AllAt, nowhere, local-at, local-init}
 use Rattle.disjunctive.proofs.Locals.{finds-local}
 
--- How an argument is passed on: as it is, with its type, or lent again, a `&mut` reference or slice, from its local through one more or two.
--- What lies there has a type in a reference, and one in memory.
+-- An argument is passed on as it is or lent again from its local: a `&mut` reference through one more, a slice through two.
+-- What is lent again has a type in a reference, and one in memory.
 pub data Way : Type 0 where
   as-is : Ty → Way
   again : Lifetime → Ty → Ty → Way
@@ -77,7 +77,7 @@ lends (slice-again ℓ τ δ ∷ ws) j n b = seq (assign (place n []) (addrOf (p
 pub slice-fits : {n : ℕ} → n < 2 ^ bits w64 → Unit {0} × (Unit {0} × (Fits w64 n × Unit {0}))
 slice-fits h = (tt, (tt, (record { fits = h }, tt)))
 
--- and so does a signed number
+-- a signed number fits its local too
 pub number-fits : (z : ℤ) → SFits w32 z → Unit {0} × Fits w32 (ofZ w32 z)
 number-fits z h = (tt, ofZ-fits w32 z h)
 

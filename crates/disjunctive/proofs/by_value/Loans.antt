@@ -1,14 +1,14 @@
--- A local record and the first ranges of a local array are lent for a call, each for a lifetime of its own that ends after it, as `&` or as `&mut`. Both come back.
-use Rattle.ranges.proofs.Prelude.{_≡_, refl, sym, _∙_, ℕ, _≤_, List, [], _∷_, URA, fullShare, named, Val, vptr, ent, Lft, GName, fsep, fat, flft, ftrue, Heap, Atoms, sem, Given, Item, ‵, _⊛_, later}
-use Rattle.ranges.proofs.Prelude.{_$_, move, drop, use1, rewrite, split, pick, fsplit, fjoin, feqL, await, Goal, Seq, Is, RefT, ShrRef, now, length, sliceVal, MutSlice, finally, yes}
+-- A local record and the first ranges of a local array are lent for a call, as `&` or as `&mut`. Each loan has a lifetime of its own that ends after the call, and both come back.
+use Rattle.ranges.proofs.Prelude.{_≡_, refl, sym, _∙_, ℕ, _≤_, List, [], _∷_, URA, fullShare, named, Val, vptr, Lft, GName, fsep, fat, flft, ftrue, Heap, Atoms, Given, Item, ‵, _⊛_, later}
+use Rattle.ranges.proofs.Prelude.{_$_, move, drop, use1, rewrite, split, pick, fsplit, fjoin, feqL, await, Goal, Seq, Is, RefT, ShrRef, length, sliceVal, MutSlice, yes}
 use Rattle.ranges.specs.declared.range.Range.{Range}
 use Rattle.records.specs.declared.record.DisjunctivePropagator.{DisjunctivePropagator}
 use native.Mathlib.Omega.{arith}
 use mathlib.Core.List.{_++_}
-use lib.ListN.{take, drop as drop-list, take-append-drop}
+use lib.ListN.{take, drop as drop-list}
 use lib.Seq.{take-at, drop-at}
 use base.Fml.{Fml, flent}
-use types.Kit.{some, mean, use2, use3, feqI, fpick, Soaks}
+use types.Kit.{some, use2, use3, feqI, fpick, Soaks}
 use types.SemTy.{cells, Body, Arr}
 use types.Share.{arr-parts}
 use types.Tokens.{lft-new, lft-end, lent-back}

@@ -1,5 +1,5 @@
 -- The locals that a call is lent: a record, and an array of ranges of which the first are lent. Each as it lies in memory, taken apart and put together again.
-use Rattle.ranges.proofs.Prelude.{_≡_, refl, sym, _∙_, subst, ℕ, List, [], _∷_, Decided, URA, fullShare, Ty, w64, Val, WT, hasTy, fat, fsep, GName, Heap, Atoms, Given, Item, ‵, _⊛_, _$_, move, use1}
+use Rattle.ranges.proofs.Prelude.{_≡_, refl, sym, _∙_, subst, ℕ, List, [], _∷_, Decided, URA, fullShare, Ty, Val, WT, hasTy, fat, fsep, GName, Heap, Atoms, Given, Item, ‵, _⊛_, _$_, move, use1}
 use Rattle.ranges.proofs.Prelude.{rewrite, split, fsplit, fjoin, drop, Goal, Seq, Step, step, RattleType, Is, shows, cellAt, spelt, owned, RefT, Room, length}
 use Rattle.ranges.specs.declared.range.Range.{Range}
 use Rattle.records.specs.declared.record.DisjunctivePropagator.{DisjunctivePropagator}
@@ -7,7 +7,6 @@ use mathlib.Core.List.{map}
 use lib.Dec.{lit<}
 use lib.ListN.{take, drop as drop-list, take-append-drop, length-map}
 use mir.Syntax.{tyArray}
-use mir.Val.{vint}
 use base.Fml.{Fml}
 use types.Kit.{fpick, fpack, feqI}
 use types.SemTy.{cells}

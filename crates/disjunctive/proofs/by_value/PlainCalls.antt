@@ -1,9 +1,9 @@
--- A call with plain parameters: it lends the record and the first of the ranges to the open call, and returns the answer, with the array where the call stores starts in it.
+-- A call with plain parameters lends the record and the first of the ranges to the open call, and returns the answer. Where the call stores starts, the array is returned with the answer.
 -- One walk, over how the two are lent, what else is passed, and what is said of an answer.
 use Rattle.ranges.proofs.Prelude.{_≡_, refl, sym, ap, _∙_, subst, ℕ, zero, suc, _≤_, List, [], _∷_, Decided, URA, fullShare, Name, Ty, tyRef, tyInt, w64, imm, mut, local as place, copy, Body}
-use Rattle.ranges.proofs.Prelude.{Operand, seq, assign, call, Fn, Val, WT, hasTy, vptr, SProp, ent, sep, emp, id⊢, via, fst∗, ftrue, fsep, fat, flft, GName, Model, Routine, Names, Heap, Calls}
+use Rattle.ranges.proofs.Prelude.{seq, assign, call, Fn, Val, WT, hasTy, vptr, SProp, ent, sep, emp, id⊢, via, fst∗, ftrue, fsep, fat, flft, GName, Model, Routine, Names, Heap, Calls}
 use Rattle.ranges.proofs.Prelude.{Loops, Env, WpFn, Closed, Atoms, sem, fact, GhostRules, Running, givenOf, tables, FmC, fmOf, Given, Goal, Item, ‵, raw, _⊛_, ⋆, later, await, _$_, _∵_, !, qed, by}
-use Rattle.ranges.proofs.Prelude.{move, keep, drop, use0, use1, rewrite, split, pick, join, fsplit, fjoin, frame, done, PostOf as Post, runs, Seq, Step, step, look-in, sub, agg, Opds, stop, fld}
+use Rattle.ranges.proofs.Prelude.{move, drop, use1, rewrite, split, pick, join, fsplit, fjoin, frame, done, runs, Seq, Step, step, look-in, sub, agg, Opds, stop, fld}
 use Rattle.ranges.proofs.Prelude.{from, load, of-opd, addr, assigns, returns, enter, and-then, no-more, land, usize, yes, RattleType, owns, Is, shows, pointee, RefT, now, length, sliceTy, sliceVal}
 use Rattle.ranges.proofs.Prelude.{plain, nothing, heard, peeks, owned, only, says, calls-at, Ended, Clauses, Contract, Triple, entered, cited}
 use Rattle.ranges.specs.declared.range.Range.{Range}
@@ -50,11 +50,11 @@ use Rattle.disjunctive.proofs.open_calls.ReadOnlyCalls.{Reading}
 use Rattle.disjunctive.proofs.open_calls.StartsReaders.{barsFit}
 use Rattle.disjunctive.proofs.by_value.LentCounts.{lent-fits, lent-take, lent-drop}
 use Rattle.disjunctive.proofs.by_value.LocalRanges.{machP, machN, machK, kept, recordAt, rangesAt, InField, kept-length, kept-typed, kept-of}
-use Rattle.disjunctive.proofs.by_value.Loans.{Lent, shared, changed, Reference, Slice, Last, seen, lastRecord, lastRanges, RecordOwed, RangesOwed, lends-record, record-back, lends-ranges}
+use Rattle.disjunctive.proofs.by_value.Loans.{Lent, shared, changed, Reference, Slice, Last, seen, lastRecord, lastRanges, lends-record, record-back, lends-ranges}
 use Rattle.disjunctive.proofs.by_value.Loans.{ranges-back}
 
--- ---- the call: how the record and the ranges are lent, what else is passed, what is answered, what the open call says of both and of the record and the ranges at exit; and
--- what is returned, and what is said of that
+-- ---- the call: how the record and the ranges are lent, what else is passed, and what is answered. Then what the open call says of these, and of the record and the ranges at exit.
+-- Then what is returned, and what is said of that
 pub record Plain : Type 2 where
   pub record-as : Lent
   pub ranges-as : Lent
@@ -110,7 +110,7 @@ abbrev pub returned : Lent → Val → List Range → Val
 returned shared v zs = v
 returned changed v zs = vstruct (ofList (v ∷ machK zs ∷ []))
 
--- a call that leaves the ranges unchanged is told by the open one, but for the types of the locals of what else is passed, the `&mut` slice among them, and the operands
+-- a call that leaves the ranges unchanged is told by the open one. Its own are the types of the locals of what else is passed, the `&mut` slice among them, and the operands
 abbrev pub reading : Reading → List Ty → Option (ℕ × Ty) → List ℕ → Plain
 reading R τs again operands = record {
   record-as = shared;

@@ -1,4 +1,4 @@
--- A `&mut` slice that a function passes on: its MIR lends it again, from its own local through two more, of the pointer and of the slice.
+-- A `&mut` slice that a function passes on. The MIR lends the slice again, from its own local through two more: of the pointer and of the slice.
 use Rattle.ranges.proofs.Prelude.{_≡_, refl, ℕ, suc, List, [], _∷_, Decided, URA, mut, Ty, tyRef, deref, local as place, copy, Body, seq, assign, Val, WT, hasTy, vptr, Heap, Calls, Loops, Env}
 use Rattle.ranges.proofs.Prelude.{Atoms, Given, Item, ‵, _$_, PostOf as Post, runs, Step, step, look-in, sub, agg, stop, hop, fld, load, addr, assigns, and-then, no-more, sliceTy, sliceVal}
 use mathlib.Core.Option.{Option, some, none}

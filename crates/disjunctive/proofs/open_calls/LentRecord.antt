@@ -1,4 +1,4 @@
--- What the walks of the calls on a lent record share: a share of its cell is had, at the type that the MIR derefs, and given back.
+-- A lent record in a walk: a share of its cell is had, at the type that the MIR derefs, and given back.
 use Rattle.ranges.proofs.Prelude.{ℕ, List, [], _∷_, URA, Val, Lft, Share, fat, flft, Heap, Atoms, Given, Item, ‵, _$_, move, use1, Goal, Seq, Step, step, Is, shows, cellAt, peeks, spelt}
 use Rattle.records.specs.declared.record.DisjunctivePropagator.{DisjunctivePropagator}
 use base.Fml.{fobor, fshr-bor}

@@ -1,4 +1,4 @@
--- An open call that leaves the record and the ranges unchanged: it reads the starts off the ranges, copies the record, passes both to its core, and returns the core's answer.
+-- An open call that leaves the record and the ranges unchanged. It reads the starts off the ranges, copies the record, passes both to its core, and returns the core's answer.
 -- One walk, over what is read, what else the core is passed, and what is said of an answer.
 use Rattle.ranges.proofs.Prelude.{_≡_, sym, ap, _∙_, subst, ℕ, suc, _<_, _≤_, Bool, List, Decided, ℤ, URA, Name, Ty, deref, local as place, copy, seq, assign, call, Fn, Val, WT, hasTy, vptr, SProp}
 use Rattle.ranges.proofs.Prelude.{ent, sep, emp, id⊢, via, fst∗, ftrue, fsep, flft, Model, Routine, Names, Heap, Calls, Loops, WpFn, Closed, Atoms, sem, fact, factI, GhostRules, Running, tables}
@@ -35,7 +35,7 @@ use Rattle.disjunctive.proofs.open_calls.LentAgain.{lends-again, againT
 use Rattle.disjunctive.proofs.open_calls.LentRecord.{machP, looks-into, shuts-record}
 use Rattle.disjunctive.proofs.open_calls.StartsReaders.{Reader, Read, readTy, Says, startsIn, barsIn, barsFit, nameOf, routineOf, few, said-of, read-typed, read-met}
 
--- ---- the call: what it reads, what else it is passed, with the lifetimes of that, what it answers, and what is said of an answer over starts.
+-- ---- the call: what it reads, what else it is passed, with the lifetimes of that, and what it answers. Then what is said of an answer over starts.
 -- More ranges than a record has tasks are read as none, and `too-many` takes what is said of none to what is said of all
 pub record Reading : Type 2 where
   pub reader : Reader
@@ -155,7 +155,7 @@ module _ (D : Reading) where
         (lends-again (D .again) (suc (suc starts-local)) (seq (call f (copies (suc starts-local ∷ starts-local ∷ D .operands)) (place 0 [])) return)));
   }
 
-  -- the locals: once the parameters are passed, with the reference v and the slice u; with the starts; with the record's copy; and as the core is called
+  -- the locals once the parameters are passed, with the reference v and the slice u. Then with the starts, with the record's copy, and as the core is called
   module _ (κs : Lfts (D .lifetimes)) (b : Beside κs) (v u : Val) (bs : Blocks tys) where
     abbrev E : List (Ty × ℕ)
     E = envOf (fresh tys bs)
@@ -178,7 +178,7 @@ module _ (D : Reading) where
         ∙ (env-store entered-with starts-local w ∙ ap (λ (E′ : List (Ty × ℕ)). (D .answerTy, bs .0) ∷ (referenceTy, bs .1 .0) ∷ (rangesTy, bs .1 .1 .0) ∷ E′)
         (env-passing (fresh afterTys (bs .1 .1 .1)) (others κs b)))))
 
-    -- where they are found: each is `refl` once the types are written out
+    -- where the locals are found: each is `refl` once the types are written out
     pub record Laid : Type 0 where
       pub fits : Fit afterTys (others κs b)
       pub starts-at : At E entered-with starts-local (readTy (D .reader)) none

@@ -1,6 +1,6 @@
--- The open calls that store starts have one MIR up to the call of their core and one after it, but for the numbers of their locals.
--- Before it, the ranges are taken apart into two local arrays, the record is copied, and the first numbers of the arrays are the slices that the core is passed; after it, what it left is stored.
--- Local 1 is the reference to the record and local 2 the ranges. Those of a call follow its parameters: m is the first of them, and u the first after what the core is passed.
+-- The open calls that store starts have one MIR before the call of the core and one after it, but for the numbers of locals.
+-- Before the call, the ranges are taken apart into two local arrays, and the record is copied. The core is passed the first numbers of the arrays as slices. After the call, what it left is stored.
+-- Local 1 is the reference to the record and local 2 the ranges. The locals after the parameters begin at m, and those after what the core is passed at u.
 use Rattle.ranges.proofs.Prelude.{_≡_, refl, ap, _∙_, List, [], _∷_, ℕ, _≤_, Bool, ℤ, length, URA, fullShare, Ty, tyInt, tyRef, w64, w32, named, mut, imm, local as place, copy, deref, Operand, Name}
 use Rattle.ranges.proofs.Prelude.{Body, seq, assign, call, Val, vptr, SProp, Lft, GName, Share, fat, flft, Memory, Routine, Fun, Heap, Calls, Loops, Env, Atoms, FmC, Given, Item, ‵, _$_, _⊛_, ftrue}
 use Rattle.ranges.proofs.Prelude.{RefT, move, drop, rewrite, whole, sub, look-in, agg, look, init, forget, stop, hop, fld, load, of-opd, addr, assigns, and-then, no-more, land, PostOf as Post, runs}
@@ -96,7 +96,7 @@ module _ {M : Type 1} (𝓤 : URA M) (H : Heap 𝓤) (E : Env 𝓤 H) (l : ℕ �
   abbrev Has : ℕ → Ty → Type 0
   Has k τ = spotOf 𝓤 H E k ≡ (τ, l k, 0)
 
-  -- where the locals are found up to the call, with the reference's type and how the core is lent the arrays; and after it: each is `refl` once the numbers are given
+  -- where the locals are found up to the call, with the reference's type and how the core is lent the arrays; and where after it. Each is `refl` once the numbers are given
   abbrev pub Laid : Ty → Mutability → Mutability → Type 0
   Laid reference ke kl = Has 1 reference × Has 2 rangesTy × Has m tyBool × Has (1 + m) numbers × Has (2 + m) numbers × Has (3 + m) (tyInt w64) × Has (5 + m) (rangeRef imm)
       × Has (6 + m) (sliceTy (rangeRef imm)) × Has (7 + m) (rangeRef imm) × Has (8 + m) (sliceTy (rangeRef imm)) × Has (9 + m) (arrayRef mut) × Has (10 + m) (arrayRef mut) × Has (11 + m) P′.mir

@@ -17,7 +17,7 @@ ghost use Rattle.ranges.specs.Bars.{allBarsFit};
 ghost use Rattle.ranges.specs.Ranges.{earliests, latests};
 ghost use Rattle.promises.specs.PrecedencesLent.{PrecedencesLent};
 
-// Each earliest start rises to the ect of the tasks that must come before its task, where that is later, and on to a permitted value; no latest start changes.
+// Each earliest start rises to the ect of the tasks that must come before its task, if later, and on to a permitted value. No latest start changes.
 pub fn precedences(propagator: &DisjunctivePropagator, ranges: &mut [Range]) -> Precedences
     ensures { λ r. ⌜ PrecedencesLent (now (propagator .entry)) (now (ranges .entry)) r (now (ranges .exit)) ⌝ }
 {

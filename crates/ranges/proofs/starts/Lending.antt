@@ -1,4 +1,4 @@
--- What the walks share that call functions on lent ranges: the call of one that reads them, where they are lent as `&` and as `&mut`.
+-- Lent ranges in a walk: their machine values, and the call of a function that reads them, lent as `&` or as `&mut`.
 use Rattle.ranges.proofs.Prelude
 use Prelude.{_≡_, refl, List, [], _∷_, ℕ, length, URA, fullShare, Body, Name, Operand, Place, seq, call, named, Val, emp, id⊢, Fml, ftrue, Lft, GName, Share, fobs, fauth, flft, flent, fbor, fobor}
 use Prelude.{Heap, Env, Calls, Loops, Atoms, fact, FmC, Given, Item, ‵, Seq, _$_, move, fsplit, fjoin, drop, use1, feqI, raw, _⊛_, some, later, split, join, pick, await, PostOf as Post, runs, lands}
@@ -38,7 +38,7 @@ rangesObs γ ys = fobs γ (codedHoleys T.the-row .code (heres T.the-row ys))
 abbrev pub rangesBor : Lft → ℕ → ℕ → GName → List Range → Fml
 rangesBor κ b o γ ys = fbor κ (Held T.the-row (length ys) b o γ)
 
--- ---- a function that reads lent ranges: its result, and what it says of it
+-- ---- a function that reads lent ranges: its result, and what it says of the result
 module _ (R : RattleType) (Said : List Range → R .Denot → Type 0) where
   abbrev pub reader : Ended
   reader = record {
@@ -63,7 +63,7 @@ Taken ys s = s ≡ startsOf ys
 abbrev pub TakenWithBars : List Range → StartsWithBars → Type 0
 TakenWithBars ys s = s ≡ startsWithBars ys
 
--- ---- ranges lent as `&` are passed to it unchanged
+-- ---- ranges lent as `&` are passed to such a function unchanged
 module _ {M : Type 1} {𝓤 : URA M} {H : Heap 𝓤} {A : Atoms 𝓤} {K : Type 0} {W : Given 𝓤 H A} {Γ : List (Item 𝓤)} where
   pub calls-reader : {C : Calls 𝓤 H} {Λ : Loops 𝓤 H} {E : Env 𝓤 H} {q : Post 𝓤 H} {f : Name} {xs : List Operand} {d : Place} {rest : Body}
       → K → FmC 𝓤 H (W .laws) C → (R : RattleType) (Said : List Range → R .Denot → Type 0) → Triple 𝓤 (C f) (Reads R Said 𝓤 H A) → (κ : Lft) (p : Share) (x : RefT (List Range))

@@ -1,5 +1,5 @@
 -- A loop over lent ranges, `while index < count { … ranges[index] …; index += 1; }`. A turn looks into the slice, copies range i out, and shuts the slice; what it does with the copy is the caller's.
--- The invariant, where t turns are left: i + t is the count, what the caller knows of i holds, and the caller's entries are those after i turns.
+-- The invariant, where t turns are left: i + t is the count, and what the caller knows of i holds. The caller's entries are those after i turns.
 use Rattle.ranges.proofs.Prelude
 use Prelude.{_≡_, subst, refl, sym, List, [], _∷_, Bool, true, ℕ, suc, _+_, _<_, _≤_, _*_, _^_, arith, add-one, Decided, length, getD, lt-ltb, le-ltb, URA, fullShare, Body, loop, Ty, tyInt, Operand}
 use Prelude.{seq, call, PlaceStep, w64, tyBool, tyPtr, deref, field, local, unsigned, copy, int, add, mul, lt, offset, rvOpd, op2, skip, assign, block, cond, exit, switch, return, Val, vint, vbool}
@@ -27,8 +27,9 @@ rest-of b = elim b [ seq a c ↦ c | skip ↦ skip | assign p v ↦ skip | block
 abbrev pub past-copy : Body → Body
 past-copy b = rest-of (rest-of (rest-of (rest-of (rest-of b))))
 
--- The loop: its locals and their addresses, the type of the copy, the numbers of the count, of the index and of the first of four temporaries, the lent ranges, and how many of them are read.
--- The rest is the caller's: the entries after i turns, what it knows of i, what a turn does with the copy, what is done after the loop, and what is then to hold.
+-- The loop: its locals and their addresses, and the type of the copy. Then the numbers of the count, of the index and of the first of four temporaries.
+-- Then the lent ranges, and how many of them are read. The rest is the caller's: the entries after i turns, what it knows of i, and what a turn does with the copy.
+-- Then what is done after the loop, and what is to hold there.
 pub record Loop {M : Type 1} (𝓤 : URA M) (H : Heap 𝓤) : Type 2 where
   pub locals : Env 𝓤 H
   pub at : ℕ → ℕ

@@ -1,4 +1,4 @@
--- Ranges lent as `&mut` are passed on for good to a function that stores starts in them, with the first n numbers of a local array, which is whole again after the call.
+-- Ranges lent as `&mut` are passed on for good to a function that stores starts in them. The starts are the first n numbers of a local array, which is whole again after the call.
 use Rattle.ranges.proofs.Prelude
 use Prelude.{_≡_, refl, List, [], _∷_, ℕ, _≤_, arith, ℤ, length, take, URA, fullShare, Operand, Place, Body, seq, call, Name, named, Val, emp, id⊢, ftrue, fat, Lft, Share, GName, flft, Heap, Calls}
 use Prelude.{Loops, Env, Atoms, fact, factI, FmC, Given, Item, ‵, raw, _⊛_, Seq, _$_, move, drop, use0, use1, split, join, fsplit, fjoin, feqL, nothing, runs, lands, Opds, PostOf, Is, unit, RefT}

@@ -1,5 +1,6 @@
 -- What the walks of `store_starts` and `store_latest` share: the body, from its start to the return. The ranges are opened once, before the loop, and closed once, after it.
--- A turn copies range i out of its row and number i out of the lent starts, passes both to the function that says what is stored, takes range i out again, stores the answer in it, and puts it back.
+-- A turn copies range i out of its row and number i out of the lent starts. It passes both to the function that says what is stored.
+-- Then the turn takes range i out again, stores the answer in it, and puts it back.
 -- The invariant, where t starts are left: i + t is the count, and the first i starts are stored.
 -- Assumes what the two walks have: what the called function says, and that the answer is stored in a field of the range.
 use Rattle.ranges.proofs.Prelude
@@ -23,7 +24,7 @@ use Rattle.ranges.proofs.moves.stored_start as stored-start
 use Rattle.ranges.proofs.range.Range as T
 use Rattle.ranges.proofs.range.Range.Laws as T′
 
--- What is stored: how a number is stored in a range, where the called function says which.
+-- What the called function answers, a range with a number stored in it, and the ranges with all their numbers stored.
 pub record Field : Type 0 where
   pub stored : Range → ℤ → ℤ
   pub new : Range → ℤ → Range
@@ -46,7 +47,7 @@ table = (T.the-type .name, fields (tcons (tyInt w32) (tcons (tyInt w32) (tcons w
 abbrev range : Ty
 range = spell table (pointee (T.the-row .written))
 
--- ---- the MIR that the two functions have in common: a turn, whose call is of f and whose last store is in field k, and the body
+-- ---- the MIR that the two functions have in common: a turn, which calls f and stores its answer in field k, and the body
 abbrev var : ℕ → Operand
 var k = copy (local k [])
 
@@ -84,7 +85,7 @@ function f k = record {
 }
 
 module _ {M : Type 1} (𝓤 : URA M) (F : Field) where
-  -- what the function ensures that is called
+  -- what the called function ensures
   abbrev moving : Clauses 𝓤 stored-start.ended
   moving κs a = record { ghost = Unit {0}; requires = λ _. emp 𝓤; ensures = λ _ r _. fact 𝓤 (r ≡ F .stored (a .0) (a .1 .0)) }
 

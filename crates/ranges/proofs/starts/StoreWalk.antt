@@ -1,4 +1,4 @@
--- The walk of `store_starts` and of `store_latest`, from the entry to the contract: they have one signature and one MIR, but for what is stored, so it is walked once. The loop is that of `StoreLoop`.
+-- The walk of `store_starts` and of `store_latest`, from the entry to the contract. The two have one signature and one MIR, but for what is stored. The loop is that of `StoreLoop`.
 -- Assumes what each shows itself: where the answer is stored.
 use Rattle.ranges.proofs.Prelude
 use Prelude.{_≡_, subst, refl, sym, ap, List, [], _∷_, ℕ, _≤_, ℤ, length, take, URA, w32, Name, named, Val, vunit, SProp, ent, ftrue, Lft, Share, flft, Heap, Tables, WpFn, Atoms, fact, WpFn-mono}

@@ -3,7 +3,6 @@ use mathlib.Core.Path.{_≡_}
 use lib.ListN.{length}
 use borrow.Author.Needs.{needs}
 use Rattle.integers.specs.Limits.{TASKS}
-use Rattle.overload_test.specs.declared.Overload.the-variants as test
 use Rattle.conflicts.proofs.FoundConflicts.{where-refused, yes-held, yes-able, when-yes, no-held, when-no}
 use Rattle.conflicts.proofs.conflict.conflict.Statement.{statement}
 use Rattle.conflicts.proofs.conflict.conflict.Tie as tie
@@ -12,7 +11,7 @@ use Rattle.conflicts.proofs.conflict.conflict.Tie as tie
 long : (c : tie.Start) → length (c .args .«record» .durations) ≡ TASKS
 long c = search needs
 
--- yes
+-- a set overloads
 task-moments-requires : tie.Need-task-moments-requires
 task-moments-requires c κs = let t = c .before .before .before in yes-held _ _ _ _ (long (t .before)) (t .overload-test .ensures) _ (c .before .k .given .1)
 
@@ -27,7 +26,7 @@ returns c =
     let t = m .before .before .before .before in
     when-yes _ _ _ _ (long (t .before)) (t .overload-test .ensures) _ (m .before .before .k .given .1) (m .task-moments .ensures) _ (c .overloading .ensures)
 
--- no
+-- no set overloads, or the input is refused
 late-task-requires : tie.Need-late-task-requires
 late-task-requires c κs = let t = c .before .before in no-held _ _ _ _ (long (t .before)) (t .overload-test .ensures) (c .enum-told .given .1)
 

@@ -1,4 +1,4 @@
--- The run on a copy of the starts leaves its trace in the words: where it is emptied, they hold the last post, and else nothing is late.
+-- The run on a copy of the starts leaves its trace in the words. Where the run is emptied, the words hold the last post; else nothing is late.
 use mathlib.Core.Path.{_≡_, sym, ap, subst, _∙_}
 use mathlib.Core.List.{List, [], _∷_}
 use Prim.Native.Nat.{ℕ}

@@ -1,4 +1,4 @@
--- The record and the ranges are lent as `&mut`, and the record comes back unchanged.
+-- The record and the ranges are lent as `&mut`, and the record comes back unchanged. The posts and the atoms are passed beside them.
 use mathlib.Core.Logic.{inr}
 use mir.Val.{vstruct, ofList}
 use denote.Struct.Laws as LL

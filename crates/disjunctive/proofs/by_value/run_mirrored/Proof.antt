@@ -1,4 +1,4 @@
--- The record is lent as a `&`, and the ranges as a `&mut`.
+-- The record is lent as a `&`, and the ranges as a `&mut`; the posts and the atoms are passed beside them.
 use mathlib.Core.Logic.{inr}
 use mir.Val.{vstruct, ofList}
 use denote.Struct.Laws as LL

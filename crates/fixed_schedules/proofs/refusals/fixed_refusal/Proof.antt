@@ -1,4 +1,4 @@
--- The number of the record and its ranges goes before; then neighbours in the order of starts decide for all pairs, by `neighbours-are`.
+-- The number of the record and its ranges goes before; then neighbours in the order of starts decide for all pairs.
 use borrow.Author.Needs.{needs}
 use Rattle.fixed_schedules.proofs.FixedRefused.{ranges-refuse, same-counts, sorts, more-starts, traverses, overlapping, none-wrong}
 use Rattle.fixed_schedules.proofs.refusals.fixed_refusal.Statement.{statement}

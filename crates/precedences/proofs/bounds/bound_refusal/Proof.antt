@@ -1,4 +1,4 @@
--- A run's number on the record and its ranges goes before; then 17 where the task is none of the record's.
+-- The number of the record, its ranges and their bars goes before; then 17 where the task is none of the record's.
 use mathlib.Core.Path.{refl}
 use borrow.Author.Tests.{lt-ltb, le-ltb}
 use Rattle.records.proofs.LastTests.{tests-first, last-refuses, last-passes}

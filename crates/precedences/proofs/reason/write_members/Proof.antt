@@ -1,4 +1,4 @@
--- The invariant: both bounds of the members below j are written from the second atom on, and k is the number of the atom after them.
+-- The invariant: both bounds of the members below j are written from the second atom on; k is the number of the atom after them.
 use mathlib.Core.Path.{_≡_, refl}
 use Prim.Native.Nat.{_-_, _≤_, _<_}
 use native.Mathlib.Omega.{arith}

@@ -1,4 +1,4 @@
--- A loop over the ranges, by `ReadLoop`: a turn passes the copy of range i to `bars_fit`, and where its bars do not fit the function returns inside the turn.
+-- A loop over the ranges, by `ReadLoop`: a turn passes the copy of range i to `bars_fit`. Where the bars of range i do not fit, the function returns inside the turn.
 -- The invariant: the bars of all ranges fit exactly where those of the ranges from place i on do.
 use Rattle.ranges.proofs.Prelude
 use Prelude.{_≡_, refl, sym, _∙_, ap, List, [], _∷_, Bool, true, false, not, ℕ, arith, lit<, Decided, length, from-place, getD, URA, fullShare, Body, Ty, tyInt, Operand, seq, w64, tyBool, tyPtr, skip}
@@ -32,7 +32,7 @@ Fit y r = r ≡ barsFit y
 abbrev AllFit : List Range → Bool → Type 0
 AllFit ys r = r ≡ allBarsFit ys
 
--- the type of the local, spelled as the function's MIR spells it: with another spelling antt computes both sides whole where the walk meets the body
+-- the type of the local, spelled as the function's MIR spells it. With another spelling, antt computes both sides whole where the walk meets the body
 abbrev range : Ty
 range = spell table (pointee (T.the-row .written))
 

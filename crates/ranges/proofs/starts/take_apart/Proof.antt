@@ -1,4 +1,4 @@
--- A loop over the ranges, by `ReadLoop`: a turn stores each of the two numbers of the copy of range i at place i of its array. The borrows of both arrays are open while the loop runs, and their
+-- A loop over the ranges, by `ReadLoop`: a turn copies range i, and stores each of its two numbers at place i of its array. The borrows of both arrays are open while the loop runs, and their
 -- numbers are rows. The invariant: the arrays have the numbers of the first i ranges over what stood there.
 use Rattle.ranges.proofs.Prelude
 use Prelude.{_≡_, refl, sym, _∙_, ap, List, [], _∷_, map, ℕ, _<_, _*_, _^_, arith, lit<, Decided, ℤ, pos, length, getD, length-map, URA, fullShare, Ty, w32, tyInt, w64, tyBool, tyPtr, tyRef}
@@ -39,7 +39,7 @@ use Rattle.ranges.proofs.starts.take_apart.Code.Mir.{table, locals, tur
 abbrev Fitting : ℕ → ℕ → Type 0
 Fitting n r = r ≡ taken n
 
--- the type of a local, spelled as the function's MIR spells it: with another spelling antt computes both sides whole where the walk meets the body
+-- the type of a local, spelled as the function's MIR spells it. With another spelling, antt computes both sides whole where the walk meets the body
 abbrev range : Ty
 range = spell table (pointee (T.the-row .written))
 

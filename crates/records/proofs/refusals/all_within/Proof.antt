@@ -1,4 +1,4 @@
--- The invariant: `all` says whether every number before i is within. The two ends are locals, so it has them as they are read from their bits.
+-- The invariant: `all` says whether every number before i is within. The two ends are locals, so the invariant has them as they are read from their bits.
 use mathlib.Core.Path.{_≡_, sym, ap, _∙_}
 use mathlib.Core.Bool.{_&&_}
 use Prim.Native.Nat.{_-_, _≤_}

@@ -1,11 +1,6 @@
 -- Both calls answer of numbers as they are read from their bits, which are the ones given.
-use mathlib.Core.Path.{_≡_, _∙_, ap}
-use mathlib.Core.Bool.{_&&_}
-use lib.IntN.{ℤ}
-use lib.Signed.{leZ}
+use mathlib.Core.Path.{_∙_}
 use borrow.Author.Needs.{needs}
-use mir.Val.{toZ, ofZ}
-use mir.Syntax.{w32}
 use Rattle.integers.proofs.Ints.{back}
 use Rattle.records.proofs.refusals.within.Statement.{statement}
 use Rattle.records.proofs.refusals.within.Tie as tie

@@ -1,4 +1,4 @@
--- The record is passed on to the open call for good, and the numbers of its answer are returned.
+-- The record and the task are passed on to the open call for good, and the numbers of its answer are returned.
 use mathlib.Core.Path.{refl}
 use mathlib.Core.List.{[], _∷_}
 use mathlib.Core.Option.{none}

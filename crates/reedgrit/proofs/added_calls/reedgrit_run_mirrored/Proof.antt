@@ -1,5 +1,4 @@
--- The record, the ranges, the posts and the atoms are passed on to the open call for good, and the numbers of its
--- answer are returned.
+-- The record, the ranges, the posts and the atoms are passed on to the open call for good. The numbers of its answer are returned.
 use mathlib.Core.Path.{refl}
 use mathlib.Core.List.{[], _∷_}
 use mathlib.Core.Option.{some}

@@ -1,5 +1,4 @@
--- The record, the ranges, the posts and the atoms are passed on to the open run for good, and the numbers of its outcome and its
--- leaf changes are returned.
+-- The record, the ranges, the posts and the atoms are passed on to the open run for good. The numbers of its outcome and its leaf changes are returned.
 use mathlib.Core.Path.{refl}
 use mathlib.Core.List.{[], _∷_}
 use mathlib.Core.Option.{some}
