@@ -110,7 +110,7 @@ impl Node {
         }
     }
 
-    // One of two nodes, whose ect and sum are those of this node. No branch depends on which, since a guess would be wrong half of the time.
+    // One of two nodes, whose ect and sum are those of this node. `pick` compiles to no branch: a guess of which would be wrong half of the time.
     pub fn with_bars(self, first: bool, a: Node, b: Node) -> Node
         ensures { λ r. ⌜ (whitePart self ≡ whitePart (cond first a b) → r ≡ cond first a b) ⌝ }
     {
