@@ -96,8 +96,10 @@ module _ {size : TreeSize} {lct : ℕ} {words : List ℕ} {es posts atoms : List
 
   -- f turns of the inner loop
   abbrev pub AllConsidered : ℕ → code.Turn → List ℕ → List ℤ → List ℤ → List ℤ → Type 0
-  AllConsidered f (turn.On w′) words′ es′ posts′ atoms′ = (st′ : State) × AtNow st′ words′ es′ posts′ atoms′ w′ × (turns f (s .st) ≡ on st′)
-  AllConsidered f (turn.Emptied w′) words′ es′ posts′ atoms′ = (st′ : State) × AtNow st′ words′ es′ posts′ atoms′ w′ × (turns f (s .st) ≡ stop st′)
+  AllConsidered f (turn.On w′) words′ es′ posts′ atoms′ = (st′ : State) × AtNow st′ words′ es′ posts′ atoms′ w′
+      × (turns f (s .st) ≡ on st′)
+  AllConsidered f (turn.Emptied w′) words′ es′ posts′ atoms′ = (st′ : State) × AtNow st′ words′ es′ posts′ atoms′ w′
+      × (turns f (s .st) ≡ stop st′)
 
   -- x is the leaf of the task i to consider
   pub record Responsible-for (i x : ℕ) : Type 0 where

@@ -389,8 +389,8 @@ fn take_out(
     joins: bool,
 )
     requires { ⌜ ((est durations : List ℕ) × Movable (size .inner) (now nodes) (now mapping) est durations j joined) ⌝ }
-    ensures { λ _. ⌜ ((est durations : List ℕ) → Recoloured empty (size .inner) (now (nodes .entry)) (now (nodes .exit)) (now (mapping .entry)) est durations j
-        joined joins) ⌝ }
+    ensures { λ _. ⌜ ((est durations : List ℕ) → Recoloured empty (size .inner) (now (nodes .entry)) (now (nodes .exit)) (now (mapping .entry))
+        est durations j joined joins) ⌝ }
 {
     let place = leaf_of(mapping, LocalId(j));
     if joined && joins {

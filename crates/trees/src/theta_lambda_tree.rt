@@ -326,7 +326,8 @@ impl ThetaLambdaTree {
     // Removes a task from Theta, but for the leaf's ancestors.
     pub fn lay_empty(nodes: &mut [u32; TREEWORDS], inner: usize, place: LeafPlace)
         requires { ⌜ ((l : HeldLeaves inner (now nodes)) × (place .0 < l .J .count)) ⌝ }
-        ensures { λ _. ⌜ ((l : HeldLeaves inner (now (nodes .entry))) → place .0 < l .J .count → LeafColoured empty l (place .0) (now (nodes .exit))) ⌝ }
+        ensures { λ _. ⌜ ((l : HeldLeaves inner (now (nodes .entry))) → place .0 < l .J .count
+            → LeafColoured empty l (place .0) (now (nodes .exit))) ⌝ }
     {
         ThetaLambdaTree::lay(nodes, inner, place, Node::empty());
     }
