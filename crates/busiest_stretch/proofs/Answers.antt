@@ -15,7 +15,7 @@ use Rattle.integers.specs.Orders.{index, Ordered}
 use Rattle.integers.proofs.Ints.{ints, up, dn, subℤ, minℤ-is, maxℤ-is}
 use Rattle.integers.specs.Extremes.{minℤ, maxℤ}
 use Rattle.integers.proofs.MomentSums.{mono, reflect, mono<, plus, plus-above, above-up, at-moment, instant-above, moment-instant}
-use Rattle.scheduling.specs.Scheduling.{whole, natural, Tasks, total}
+use Rattle.scheduling.specs.Scheduling.{whole, natural, Tasks}
 use Rattle.scheduling.proofs.Sets.{total-ext}
 use Rattle.records.specs.declared.record.DisjunctivePropagator.{DisjunctivePropagator}
 use Rattle.records.specs.Records.{durationOf}
@@ -37,7 +37,8 @@ unfolding up dn
 positive (pos n) p q e = omega arith
 positive (negsuc n) p q e = omega arith
 
-common-same : (o : ℕ) (a b x y : ℤ) → Above o a → Above o b → Above o x → Above o y → common a b x y ≡ commonIn (moment o a) (moment o b) (moment o x) (moment o y)
+common-same : (o : ℕ) (a b x y : ℤ) → Above o a → Above o b → Above o x → Above o y
+    → common a b x y ≡ commonIn (moment o a) (moment o b) (moment o x) (moment o y)
 unfolding commonIn
 common-same o a b x y p q r s = positive (minℤ b y -ℤ maxℤ a x) (min (moment o b) (moment o y)) (max (moment o a) (moment o x)) sums
   where
@@ -51,11 +52,13 @@ common-same o a b x y p q r s = positive (minℤ b y -ℤ maxℤ a x) (min (mome
     sums = omega (arith, earlier, later, subℤ (minℤ b y) (maxℤ a x))
 
 -- ---- the tasks J of whole numbers, and M of their moments
-module _ (o : ℕ) (J : Tasks whole) (M : Tasks natural) (at-moments : AtMoments o J M) where
+module _ (o : ℕ) (J : Tasks whole) (starts ds : List ℕ) (at-moments : AtMoments o J (inMoments (J .count) starts ds)) where
+  abbrev M : Tasks natural
+  M = inMoments (J .count) starts ds
+
   covered-same : (w : ℕ) (x : ℤ) → Above o x → covered J w x ≡ coveredIn M w (moment o x)
   covered-same w x p =
       total-ext (λ k. common (J .earliest k) (J .earliest k +ℤ pos (J .duration k)) x (x +ℤ pos w)) (commonAt M w (moment o x)) (J .count) each
-      ∙ ap (total (commonAt M w (moment o x))) (sym (at-moments .count))
     where
       each : (k : ℕ) → k < J .count → common (J .earliest k) (J .earliest k +ℤ pos (J .duration k)) x (x +ℤ pos w) ≡ commonAt M w (moment o x) k
       each k q =
@@ -65,26 +68,26 @@ module _ (o : ℕ) (J : Tasks whole) (M : Tasks natural) (at-moments : AtMoments
           (common-same o a (a +ℤ pos d) x (x +ℤ pos w) (at-moments .above k q) (plus-above o a d (at-moments .above k q)) p (plus-above o x w p))
 
   -- what is busiest in moments is so in whole numbers
-  module _ (first last : ℕ) (least : (k : ℕ) → k < J .count → first ≤ M .earliest k) (greatest : (k : ℕ) → k < J .count → M .earliest k ≤ last)
-      (starts-first : (k : ℕ) × (k < J .count) × (M .earliest k ≡ first)) (starts-last : (k : ℕ) × (k < J .count) × (M .earliest k ≡ last)) where
+  module _ (first last : ℕ) (ends : FirstAndLast (J .count) starts first last) where
     counts-above : (u : ℤ) → Counts J u → Above o u
     counts-above u h = let (k, q, l) = h .from in above-up o (J .earliest k) u l (at-moments .above k q)
 
     counts-from : (u : ℤ) → Counts J u → first ≤ moment o u
-    counts-from u h = let (k, q, l) = h .from in omega (arith, least k q, at-moments .start k q, mono o (J .earliest k) u l)
+    counts-from u h = let (k, q, l) = h .from in omega (arith, ends .least k q, at-moments .start k q, mono o (J .earliest k) u l)
 
     counts-to : (u : ℤ) → Counts J u → moment o u ≤ last
-    counts-to u h = let (k, q, l) = h .to in omega (arith, greatest k q, at-moments .start k q, mono o u (J .earliest k) l)
+    counts-to u h = let (k, q, l) = h .to in omega (arith, ends .greatest k q, at-moments .start k q, mono o u (J .earliest k) l)
 
     counts-up : (m : ℕ) → first ≤ m → m ≤ last → Counts J (instant o m)
-    counts-up m l h = record {
-      from = (let (k, q, e) = starts-first in (
-        k,
-        q,
-        reflect o (J .earliest k) (instant o m) (at-moments .above k q) (instant-above o m) (omega (arith, e, at-moments .start k q, moment-instant o m)),
-      ));
-      to = (let (k, q, e) = starts-last in (k, q, reflect o (instant o m) (J .earliest k) (instant-above o m) (at-moments .above k q) (omega (arith, e, at-moments .start k q, moment-instant o m))));
-    }
+    counts-up m l h =
+        let (j, p, e) = ends .starts-first in
+        let (k, q, f) = ends .starts-last in
+        let a : moment o (J .earliest j) ≤ moment o (instant o m) = omega (arith, e, at-moments .start j p, moment-instant o m) in
+        let b : moment o (instant o m) ≤ moment o (J .earliest k) = omega (arith, f, at-moments .start k q, moment-instant o m) in
+        record {
+          from = (j, p, reflect o (J .earliest j) (instant o m) (at-moments .above j p) (instant-above o m) a);
+          to = (k, q, reflect o (instant o m) (J .earliest k) (instant-above o m) (at-moments .above k q) b);
+        }
 
     busiest-up : (w c m : ℕ) → BusiestMoment M w first last c m → BusiestAt J w c (instant o m)
     busiest-up w c m b = record {
@@ -98,7 +101,8 @@ module _ (o : ℕ) (J : Tasks whole) (M : Tasks natural) (at-moments : AtMoments
     }
 
 -- the first and the last of an order by start
-pub run-of : (n : ℕ) (order starts : List ℕ) (place : ℕ → ℕ) → Ordered n (λ t. getD order t 0) place (λ j k. getD starts j 0 ≤ getD starts k 0) → 1 ≤ n
+pub run-of : (n : ℕ) (order starts : List ℕ) (place : ℕ → ℕ)
+    → Ordered n (λ t. getD order t 0) place (λ j k. getD starts j 0 ≤ getD starts k 0) → 1 ≤ n
     → FirstAndLast n starts (getD starts (getD order 0 0) 0) (getD starts (getD order (n - 1) 0) 0)
 run-of n order starts place o h = record {
   least = λ k q. rw (o .there k q) at (o .sorted 0 (place k) (omega arith) (o .placed k q));
@@ -164,13 +168,13 @@ module _ (r : DisjunctivePropagator) (es ls : List ℤ) (v : ℤ) {f : FixedOrde
             start = instant zeroAt m;
             answer = ap (λ (s : ℤ). busiestNumbers (Stretch c s)) (g ∙ e);
             busiest = subst (λ (n : ℕ). BusiestAt (tasksOn r es ls) n c (instant zeroAt m)) (ap durationOf (p ∙ same))
-                (busiest-up zeroAt (tasksOn r es ls) (inMoments (r .count) starts (r .durations)) (at-moments r es ls (input-of (held .0)) starts s) (getD starts (getD (f .order) 0 0) 0)
-                (getD starts (getD (f .order) (r .count - 1) 0) 0) (runs .least) (runs .greatest) (runs .starts-first) (runs .starts-last) length′ c m b);
+                (busiest-up zeroAt (tasksOn r es ls) starts (r .durations) (at-moments r es ls (input-of (held .0)) starts s) _ _ runs length′ c m b);
           };
         }
 
 -- too many ranges are refused as none are
-pub too-many : (r : DisjunctivePropagator) (es ls : List ℤ) (w : ℤ) (x : Busiest) → TASKS < length es → BusiestAnswered r [] [] w x → BusiestAnswered r es ls w x
+pub too-many : (r : DisjunctivePropagator) (es ls : List ℤ) (w : ℤ) (x : Busiest) → TASKS < length es
+    → BusiestAnswered r [] [] w x → BusiestAnswered r es ls w x
 too-many r es ls w x many a =
     let (same, not) = stretch-many r es ls w many in
     record { refused = λ _. a .refused (λ z. not (sym same ∙ z)) ∙ ap refusedBy same; found = λ z. absurd (not z) }

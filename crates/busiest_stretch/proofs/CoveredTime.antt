@@ -14,40 +14,26 @@ use Rattle.scheduling.proofs.Sets.{Empty, top, total-ext, total-mono, total-par
 use Rattle.scheduling.proofs.Joins.{total-sum}
 use Rattle.busiest_stretch.specs.StretchMoments.{commonIn, commonAt, coveredIn}
 
-middle : (p q y : ℕ) → q ≤ y → y ≤ p → p - q ≡ y - q + (p - y)
-middle p q y h k = omega arith
+left : (a y : ℕ) → y ≤ a → max a y ≡ a
+left a y h = omega arith
 
-shorter : (b z : ℕ) → min b (z + 1 + 1) - (z + 1) ≤ min b (z + 1) - z
-shorter b z = omega arith
+right : (a y : ℕ) → a < y → max a y ≡ y
+right a y h = omega arith
 
-longer : (a v : ℕ) → v + 1 - max a v ≤ v + 1 + 1 - max a (v + 1)
-longer a v = omega arith
+before : (a b z : ℕ) → (a ≤ z) ⊎ (z + 1 < a) → min b (z + 1 + 1) - max a (z + 1) ≤ min b (z + 1) - max a z
+before a b z (inl h) = omega arith
+before a b z (inr h) = omega arith
+
+after : (a b v : ℕ) → (b ≤ v) ⊎ (v + 1 < b) → min b (v + 1) - max a v ≤ min b (v + 1 + 1) - max a (v + 1)
+after a b v (inl h) = omega arith
+after a b v (inr h) = omega arith
 
 -- ---- one task, from a to b
 module _ (a b : ℕ) where
   -- a stretch in two parts
   pub common-split : (x y z : ℕ) → x ≤ y → y ≤ z → commonIn a b x z ≡ commonIn a b x y + commonIn a b y z
   unfolding commonIn
-  common-split x y z p q = elim (decLe y a) [
-    | yes h ↦
-        (let e : max a x ≡ a = omega arith in
-        let f : max a y ≡ a = omega arith in
-        let g : min b y - a ≡ 0 = omega arith in
-        rw (e, f, g) (omega arith))
-    | no h ↦ elim (decLe b y) [
-      | yes l ↦
-          (let e : min b y ≡ b = omega arith in
-          let f : min b z ≡ b = omega arith in
-          let g : b - max a y ≡ 0 = omega arith in
-          rw (e, f, g) (omega arith))
-      | no l ↦
-          (let g : max a x ≤ y = omega arith in
-          let k : y ≤ min b z = omega arith in
-          let e : min b y ≡ y = omega arith in
-          let f : max a y ≡ y = omega arith in
-          rw (e, f) (middle (min b z) (max a x) y g k))
-    ]
-  ]
+  common-split x y z p q = elim (decLe y a) [ yes h ↦ rw (left a y h) (omega arith) | no h ↦ rw (right a y (omega arith)) (omega arith) ]
 
   -- the unit left, and the unit reached
   common-slide : (w x : ℕ) → commonIn a b (x + 1) (x + 1 + w) + commonIn a b x (x + 1) ≡ commonIn a b x (x + w) + commonIn a b (x + w) (x + w + 1)
@@ -58,22 +44,12 @@ module _ (a b : ℕ) where
   -- a task that does not start at z + 1 is on at z where it is on at z + 1
   on-before : (z : ℕ) → (a ≡ z + 1 → ⊥) → commonIn a b (z + 1) (z + 1 + 1) ≤ commonIn a b z (z + 1)
   unfolding commonIn
-  on-before z ne = elim (decLe a z) [
-    | yes h ↦ (let e : max a (z + 1) ≡ z + 1 = omega arith in let f : max a z ≡ z = omega arith in rw (e, f) (shorter b z))
-    | no h ↦ (let l : z + 1 + 1 ≤ a = omega arith in let e : min b (z + 1 + 1) - max a (z + 1) ≡ 0 = omega arith in rw e (omega arith))
-  ]
+  on-before z ne = before a b z (elim (decLe a z) [ yes h ↦ inl h | no h ↦ inr (omega arith) ])
 
   -- and one that does not end at v + 1 is on at v + 1 where it is on at v
   on-after : (v : ℕ) → (b ≡ v + 1 → ⊥) → commonIn a b v (v + 1) ≤ commonIn a b (v + 1) (v + 1 + 1)
   unfolding commonIn
-  on-after v ne = elim (decLe b v) [
-    | yes h ↦ (let e : min b (v + 1) - max a v ≡ 0 = omega arith in rw e (omega arith))
-    | no h ↦
-        (let l : v + 1 + 1 ≤ b = omega arith in
-        let e : min b (v + 1) ≡ v + 1 = omega arith in
-        let f : min b (v + 1 + 1) ≡ v + 1 + 1 = omega arith in
-        rw (e, f) (longer a v))
-  ]
+  on-after v ne = after a b v (elim (decLe b v) [ yes h ↦ inl h | no h ↦ inr (omega arith) ])
 
 -- no more than the task lasts
 pub common-short : (a d x y : ℕ) → commonIn a (a + d) x y ≤ d
@@ -83,7 +59,8 @@ common-short a d x y = omega arith
 -- ---- all tasks
 module _ (M : Tasks natural) where
   -- tasks cover no more than they last together
-  pub covered-short : (w x k : ℕ) → k < M .count → total (commonAt M w x) k + commonAt M w x k ≤ total (M .duration) (M .count)
+  pub covered-short : (w x k : ℕ) → k < M .count
+      → total (commonAt M w x) k + commonAt M w x k ≤ total (M .duration) (M .count)
   covered-short w x k q =
       omega (arith, total-part (commonAt M w x) (M .count) k q, total-mono (commonAt M w x) (M .duration) (M .count) (λ j r. common-short (M .earliest j) (M .duration j) x (x + w)))
 

@@ -32,7 +32,8 @@ module _ (f : ℕ → ℕ) (first last : ℕ) where
   left zero u e l = (u, record { from = omega arith; to = l; no-worse = inr (refl, omega arith); has = inl (omega arith) })
   left (suc m) u e l = by (λ p. left m (first + m) refl p) (decLt (f (first + m)) (f u))
     where
-      by : (first + m ≤ last → (y : ℕ) × Reached Rises (first + m) y) → Dec (f (first + m) < f u) → (y : ℕ) × Reached Rises u y
+      by : (first + m ≤ last → (y : ℕ) × Reached Rises (first + m) y) → Dec (f (first + m) < f u)
+          → (y : ℕ) × Reached Rises u y
       by ih (yes h) =
           let s : u ≡ first + m + 1 = omega arith in
           (u, record { from = omega arith; to = l; no-worse = inr (refl, omega arith); has = inr (first + m, s, rw s at h) })

@@ -32,5 +32,6 @@ module _ (r : DisjunctivePropagator) (es ls : List ℤ) (w : ℤ) where
   refused-23 = more-refused (fixedTests r es ls) t23 (passed-fixed r es ls) (length-is w) refl refl
 
 -- more ranges than any record has tasks are refused by the number that refuses none
-pub stretch-many : (r : DisjunctivePropagator) (es ls : List ℤ) (w : ℤ) → TASKS < length es → (stretchNumber r [] [] w ≡ stretchNumber r es ls w) × (stretchNumber r es ls w ≡ 0 → ⊥)
+pub stretch-many : (r : DisjunctivePropagator) (es ls : List ℤ) (w : ℤ) → TASKS < length es
+    → (stretchNumber r [] [] w ≡ stretchNumber r es ls w) × (stretchNumber r es ls w ≡ 0 → ⊥)
 stretch-many r es ls w many = fixed-many r es ls (t23 r [] [] w ∷ []) (t23 r es ls w ∷ []) many

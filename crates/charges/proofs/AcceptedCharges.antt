@@ -1,9 +1,9 @@
--- The charges of an accepted call, and what the call answers.
-use mathlib.Core.Path.{_≡_, sym, ap, _∙_}
+-- What a task is charged, the charges of an accepted call, and what the call answers.
+use mathlib.Core.Path.{_≡_, sym, ap, ap₂, _∙_}
 use mathlib.Core.List.{List, [], _∷_}
-use Prim.Native.Nat.{ℕ, _<_}
+use Prim.Native.Nat.{ℕ, _≤_, _<_}
 use native.Mathlib.Omega.{arith}
-use lib.IntN.{ℤ, pos}
+use lib.IntN.{ℤ, pos, _+ℤ_}
 use lib.ListN.{length, getD, length-replicate}
 use Rattle.integers.specs.FilledLists.{noTasks}
 use Rattle.integers.specs.Answers.{answered, refusedBy}
@@ -11,13 +11,24 @@ use Rattle.integers.specs.Limits.{TASKS}
 use Rattle.integers.proofs.FilledLists.{filled-at, filled-past, filled-length, getD-fresh}
 use Rattle.scheduling.specs.Scheduling.{total}
 use Rattle.records.specs.declared.record.DisjunctivePropagator.{DisjunctivePropagator}
+use Rattle.fixed_schedules.specs.FixedSchedules.{startAt}
 use Rattle.fixed_schedules.proofs.AcceptedSchedules.{input-of, sortable, short}
 use Rattle.charges.specs.declared.answer.TaskCharges.{TaskCharges}
 use Rattle.charges.specs.declared.answer.Charges.{Charges}
 use Rattle.charges.specs.declared.answer.Charging.the-variants.{Made, Refused}
+use Rattle.charges.specs.Tariff.{minutesLate, costOf}
 use Rattle.charges.specs.Charges.{chargeAt, noCharges, chargesNumber, AcceptedCharges, ChargesRight, Charged}
 use Rattle.charges.specs.ChargeLoop.{Chargeable, Summed}
+use Rattle.charges.proofs.Costs.{cost-most}
 use Rattle.charges.proofs.ChargesRefused.{accepted-charges, charges-many}
+
+-- what a call charges for a task, whose start u and due moment v it reads from bits
+module _ (ds : List ℕ) (es due : List ℤ) (i : ℕ) {cost : ℕ} {u v : ℤ} (e : cost ≡ costOf (minutesLate (u +ℤ pos (getD ds i 0)) v)) (a : u ≡ startAt es i) (b : v ≡ getD due i (pos 0)) where
+  pub charge-is : cost ≡ chargeAt ds es due i
+  charge-is = e ∙ ap₂ (λ (x y : ℤ). costOf (minutesLate (x +ℤ pos (getD ds i 0)) y)) a b
+
+  pub charge-small : cost ≤ 2000
+  charge-small = omega (arith, e, cost-most (minutesLate (u +ℤ pos (getD ds i 0)) v))
 
 module _ (r : DisjunctivePropagator) (es ls due : List ℤ) where
   pub refused : (m : ℕ) (b : TaskCharges) → m ≡ chargesNumber r es ls due → (m ≡ 0 → ⊥) → b ≡ noCharges → Charged r es ls due (record { charged = b; answer = Refused m })
@@ -56,7 +67,8 @@ module _ (r : DisjunctivePropagator) (es ls due : List ℤ) where
         }
 
 -- too many ranges are refused as none are
-pub too-many : (r : DisjunctivePropagator) (es ls due : List ℤ) (c : Charges) → TASKS < length es → Charged r [] [] due c → Charged r es ls due c
+pub too-many : (r : DisjunctivePropagator) (es ls due : List ℤ) (c : Charges) → TASKS < length es
+    → Charged r [] [] due c → Charged r es ls due c
 too-many r es ls due c many p =
     let (same, not) = charges-many r es ls due many in
     let (answer, none) = p .refused (λ z. not (sym same ∙ z)) in

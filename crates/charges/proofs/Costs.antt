@@ -11,8 +11,8 @@ use borrow.Author.Tests.{le-leb, lt-leb}
 use Rattle.scheduling.specs.Scheduling.{total}
 use Rattle.scheduling.proofs.Sets.{total-none, total-more, total-up}
 use Rattle.charges.specs.declared.rates.Row.{Row}
-use Rattle.charges.specs.Tariff.{tariff, rate, costOfHours, hoursBegun, costOf, printed}
 use Rattle.charges.specs.Charges.{MINUTES}
+use Rattle.charges.specs.Tariff.{tariff, rate, costOfHours, hoursBegun, costOf, printed}
 
 -- ---- a sum
 -- d places from a on that hold c each

@@ -1,63 +1,41 @@
 -- What refuses a fixed schedule: what holds where nothing does, the sole ground for each number, and the same where other tests follow.
 use mathlib.Core.Path.{_≡_, refl, sym, _∙_}
 use mathlib.Core.Bool.{Bool, true, false, not, _&&_}
-use mathlib.Core.Logic.{_↔_, ⊎-elim}
+use mathlib.Core.Logic.{_↔_}
 use mathlib.Core.List.{List, [], _∷_, _++_}
 use Prim.Native.Nat.{ℕ, _-_, _<_}
 use native.Mathlib.Omega.{arith}
 use lib.IntN.{ℤ, pos}
-use lib.Signed.{leZ}
 use lib.ListN.{length, getD, take}
 use borrow.Author.Tests.{not-true, not-false}
 use Rattle.integers.specs.Limits.{TASKS}
 use Rattle.integers.specs.Tests.{Test, test, allBelow, refusal, AllPassed}
-use Rattle.integers.proofs.Bools.{and-true, and-yes, and-left, and-right}
-use Rattle.integers.proofs.Ints.{ints, leZ-true, le-leZ}
+use Rattle.integers.proofs.Bools.{and-yes, and-left, and-right}
 use Rattle.integers.proofs.Tests.{all-at, all-show, unused, accepts, accepted, refusal-none, not-given, first-refuses}
-use Rattle.scheduling.specs.Scheduling.{NoOverlap}
+use Rattle.integers.proofs.WholeNumbers.{eqZ-same, same-eqZ}
+use Rattle.records.proofs.TestsInOrder.{as-facts, as-tests}
 use Rattle.records.specs.declared.record.DisjunctivePropagator.{DisjunctivePropagator}
 use Rattle.records.specs.Records.{Lawful}
 use Rattle.records.specs.Refusals.{rangeTests, rangeNumber, CountsFit, StartsFit, RangesFit, AcceptedInput}
 use Rattle.records.proofs.LastTests.{tests-first, last-refuses, last-passes}
 use Rattle.records.proofs.RefusedRuns.{passed-ranges, accepted-ranges, range-20, range-10, range-3, range-4, range-holds, range-many}
-use Rattle.fixed_schedules.specs.FixedSchedules.{startAt, sameStart, oneStartAt, apartAt, allApart, fixedTests, fixedNumber, orderOf, tasksOn, Fixed, AcceptedFixed}
+use Rattle.fixed_schedules.specs.FixedSchedules.{oneStartAt, allApart, fixedTests, fixedNumber, orderOf, Fixed, AcceptedFixed}
 use Rattle.fixed_schedules.specs.declared.refusals.FixedOrder.{FixedOrder}
 use Rattle.fixed_schedules.specs.Neighbours.{Sortable, Traversable, neighboursApart, Tested}
-use Rattle.fixed_schedules.proofs.Neighbours.{apart-read, apart-show, neighbours-are}
+use Rattle.fixed_schedules.proofs.Neighbours.{apart-is, neighbours-are}
 use Rattle.fixed_schedules.proofs.AcceptedSchedules.{sortable, lasting, traversable}
 
 -- a schedule that a number refuses may have any order
 pub tested-not : {es : List ℤ} {m n : ℕ} {r : FixedOrder} → r .number ≡ n → (n ≡ 0 → ⊥) → n ≡ m → Tested es m r
 tested-not e not z = record { number = e ∙ z; order = λ y. absurd (not (z ∙ y)) }
 
-same-is : (a b : ℤ) → sameStart a b ≡ true ↔ (a ≡ b)
-same-is a b = (
-  λ h. (let w = and-true (leZ a b) (leZ b a) h in let p = leZ-true a b (w .0) in let q = leZ-true b a (w .1) in omega ints),
-  λ e. and-yes (leZ a b) (leZ b a) (le-leZ a b (omega ints)) (le-leZ b a (omega ints)),
-)
-
 -- the test of 14 as a fact
 module _ (r : DisjunctivePropagator) (es ls : List ℤ) (c : length es ≡ r .count) where
-  one-is : allBelow (oneStartAt es ls) (length es) ≡ true ↔ ((k : ℕ) → k < r .count → getD es k (pos 0) ≡ getD ls k (pos 0))
-  one-is = (
-    λ h k q. same-is (getD es k (pos 0)) (getD ls k (pos 0)) .0 (all-at (oneStartAt es ls) (length es) h k (omega arith)),
-    λ f. all-show (oneStartAt es ls) (length es) (λ k q. same-is (getD es k (pos 0)) (getD ls k (pos 0)) .1 (f k (omega arith))),
-  )
-
-  apart-is : allApart (r .durations) es (length es) ≡ true ↔ NoOverlap (tasksOn r es ls) (startAt es)
-  apart-is = (
-    λ h j k p q ne. ⊎-elim (λ z. absurd (ne z)) (λ z. z)
-        (apart-read (r .durations) es j k (all-at (apartAt (r .durations) es j) (length es) (all-at (λ i. allBelow (apartAt (r .durations) es i) (length es)) (length es) h j (omega arith)) k
-        (omega arith))),
-    λ f. all-show (λ i. allBelow (apartAt (r .durations) es i) (length es)) (length es)
-        (λ j p. all-show (apartAt (r .durations) es j) (length es) (λ k q. apart-show (r .durations) es j k (λ ne. f j k (omega arith) (omega arith) ne))),
-  )
+  one-is : allBelow (oneStartAt es ls) (r .count) ≡ true ↔ ((k : ℕ) → k < r .count → getD es k (pos 0) ≡ getD ls k (pos 0))
+  one-is = (λ h k q. eqZ-same _ _ (all-at _ (r .count) h k q), λ f. all-show _ (r .count) (λ k q. same-eqZ (f k q)))
 
   pub fixed-is : allBelow (oneStartAt es ls) (length es) && allApart (r .durations) es (length es) ≡ true ↔ Fixed r es ls
-  fixed-is = (
-    λ h. (let w = and-true (allBelow (oneStartAt es ls) (length es)) (allApart (r .durations) es (length es)) h in record { one = one-is .0 (w .0); apart = apart-is .0 (w .1) }),
-    λ f. and-yes (allBelow (oneStartAt es ls) (length es)) (allApart (r .durations) es (length es)) (one-is .1 (f .one)) (apart-is .1 (f .apart)),
-  )
+  fixed-is = let apart = apart-is (r .durations) es (r .count) in rw c (λ h. search (as-facts, one-is .0, apart .0), λ f. search (as-tests, one-is .1, apart .1))
 
 module _ (r : DisjunctivePropagator) (es ls : List ℤ) where
   abbrev t14 : Test
@@ -68,14 +46,10 @@ module _ (r : DisjunctivePropagator) (es ls : List ℤ) where
   passed-fixed = (facts, tests)
     where
       facts : AllPassed (fixedTests r es ls) → AcceptedFixed r es ls
-      facts (a, (b, (c, (d, (e, _))))) =
-          let f = passed-ranges r es ls .0 (a, (b, (c, (d, tt)))) in
-          record { lawful = f .lawful; counts = f .counts; starts = f .starts; ranges = f .ranges; fixed = fixed-is r es ls (f .counts .earliest) .0 e }
+      facts h = let f = passed-ranges r es ls .0 (search) in search (fixed-is r es ls (f .counts .earliest) .0)
 
       tests : AcceptedFixed r es ls → AllPassed (fixedTests r es ls)
-      tests f =
-          let (a, (b, (c, (d, _)))) = passed-ranges r es ls .1 (record { lawful = f .lawful; counts = f .counts; starts = f .starts; ranges = f .ranges }) in
-          (a, (b, (c, (d, (fixed-is r es ls (f .counts .earliest) .1 (f .fixed), tt)))))
+      tests f = let h = passed-ranges r es ls .1 (search) in search (fixed-is r es ls (f .counts .earliest) .1)
 
   -- nothing refuses the schedule
   pub accepted-fixed : fixedNumber r es ls ≡ 0 ↔ AcceptedFixed r es ls
@@ -143,12 +117,22 @@ module _ (r : DisjunctivePropagator) (es ls : List ℤ) (after : List Test) wher
     refused-14 = range-holds r es ls (t14 r es ls ∷ after) refl (λ n. first-refuses (t14 r es ls) after (fixed-is r es ls (n .earliest)) u14);
   }
 
-module _ (r : DisjunctivePropagator) (es ls : List ℤ) {f : FixedOrder} (s : Tested es (fixedNumber r es ls) f) (z : f .number ≡ 0) (n : ℕ) (p : Bool) where
-  pub refused-after : {g : FixedOrder} → p ≡ false → g .number ≡ n → unused [] n ≡ true → Tested es (refusal (fixedTests r es ls ++ (test n p ∷ []))) g
-  refused-after h e u = tested-not e (λ y. not-given [] n u (refusal-none ∙ sym y)) (last-refuses (fixedTests r es ls) (s .number) refl z n p h)
+module _ (r : DisjunctivePropagator) (es ls : List ℤ) {f : FixedOrder} (s : Tested es (fixedNumber r es ls) f) (n : ℕ) (p : Bool) where
+  pub number-first : (f .number ≡ 0 → ⊥) → f .number ≡ refusal (fixedTests r es ls ++ (test n p ∷ []))
+  number-first not = tests-first (fixedTests r es ls) (s .number) (test n p ∷ []) not
 
-  pub passed-after : p ≡ true → Tested es (refusal (fixedTests r es ls ++ (test n p ∷ []))) f
-  passed-after h = record { number = z ∙ last-passes (fixedTests r es ls) (s .number) refl z n p h; order = λ _. s .order (sym (s .number) ∙ z) }
+  module _ (z : f .number ≡ 0) where
+    pub number-refuses : p ≡ false → n ≡ refusal (fixedTests r es ls ++ (test n p ∷ []))
+    number-refuses h = last-refuses (fixedTests r es ls) (s .number) refl z n p h
+
+    pub number-passes : p ≡ true → 0 ≡ refusal (fixedTests r es ls ++ (test n p ∷ []))
+    number-passes h = last-passes (fixedTests r es ls) (s .number) refl z n p h
+
+    pub refused-after : {g : FixedOrder} → p ≡ false → g .number ≡ n → unused [] n ≡ true → Tested es (refusal (fixedTests r es ls ++ (test n p ∷ []))) g
+    refused-after h e u = tested-not e (λ y. not-given [] n u (refusal-none ∙ sym y)) (number-refuses h)
+
+    pub passed-after : p ≡ true → Tested es (refusal (fixedTests r es ls ++ (test n p ∷ []))) f
+    passed-after h = record { number = z ∙ number-passes h; order = λ _. s .order (sym (s .number) ∙ z) }
 
 -- more ranges than any record has tasks are refused by the number that refuses none, whatever tests follow
 pub fixed-many : (r : DisjunctivePropagator) (es ls : List ℤ) (after after′ : List Test) → TASKS < length es

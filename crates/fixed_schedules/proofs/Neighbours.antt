@@ -1,7 +1,7 @@
 -- Neighbours of the order that do not overlap, and no two tasks that do: one test for the other.
 use mathlib.Core.Path.{_≡_, sym, ap, _∙_}
 use mathlib.Core.Bool.{Bool, true, _||_}
-use mathlib.Core.Logic.{_⊎_, inl, inr, ⊎-elim}
+use mathlib.Core.Logic.{_↔_, _⊎_, inl, inr, ⊎-elim}
 use mathlib.Core.List.{List}
 use Prim.Native.Nat.{ℕ, _+_, _-_, _≤_, _<_}
 use native.Mathlib.Omega.{arith}
@@ -14,7 +14,7 @@ use lib.Seq.{getD-take}
 use borrow.Author.Tests.{eqb-true, eq-eqb}
 use Rattle.integers.specs.Orders.{index}
 use Rattle.integers.specs.Tests.{allBelow}
-use Rattle.integers.proofs.Bools.{bool, clash, or-true, or-right}
+use Rattle.integers.proofs.Bools.{same-tests, or-true, or-right}
 use Rattle.integers.proofs.Ints.{ints, up, dn, sumℤ, leZ-true, le-leZ}
 use Rattle.integers.proofs.Tests.{all-at, all-show, all-ext}
 use Rattle.fixed_schedules.specs.FixedSchedules.{startAt, endAt, apartAt, allApart, orderOf}
@@ -29,22 +29,21 @@ module _ (ds : List ℕ) (es : List ℤ) where
   at : ℕ → ℕ
   at t = getD (orderOf es) t 0
 
-  -- what a pair passes
-  apart-first : (j k : ℕ) → endAt ds es j ≤ℤ startAt es k → apartAt ds es j k ≡ true
-  apart-first j k h = or-right (eqb j k) _ (or-left (leZ (endAt ds es j) (startAt es k)) _ (le-leZ (endAt ds es j) (startAt es k) h))
+  -- the tasks 0 to n − 1 are apart, each pair by one of its two orders
+  abbrev pub Apart : ℕ → Type 0
+  Apart n = (j k : ℕ) → j < n → k < n → (j ≡ k → ⊥) → (endAt ds es j ≤ℤ startAt es k) ⊎ (endAt ds es k ≤ℤ startAt es j)
 
-  apart-second : (j k : ℕ) → endAt ds es k ≤ℤ startAt es j → apartAt ds es j k ≡ true
-  apart-second j k h = or-right (eqb j k) _ (or-right (leZ (endAt ds es j) (startAt es k)) _ (le-leZ (endAt ds es k) (startAt es j) h))
+  pub apart-is : (n : ℕ) → allApart ds es n ≡ true ↔ Apart n
+  apart-is n = (λ h j k p q ne. read j k (all-at _ n (all-at _ n h j p) k q) ne, λ f. all-show _ n (λ j p. all-show _ n (λ k q. show j k (f j k p q))))
+    where
+      read : (j k : ℕ) → apartAt ds es j k ≡ true → (j ≡ k → ⊥) → (endAt ds es j ≤ℤ startAt es k) ⊎ (endAt ds es k ≤ℤ startAt es j)
+      read j k h ne = elim (or-true (eqb j k) _ h) [
+        | inl y ↦ absurd (ne (eqb-true j k y))
+        | inr y ↦ elim (or-true (leZ (endAt ds es j) (startAt es k)) _ y) [ inl z ↦ inl (leZ-true _ _ z) | inr z ↦ inr (leZ-true _ _ z) ]
+      ]
 
-  pub apart-read : (j k : ℕ) → apartAt ds es j k ≡ true → (j ≡ k) ⊎ ((endAt ds es j ≤ℤ startAt es k) ⊎ (endAt ds es k ≤ℤ startAt es j))
-  apart-read j k h = elim (or-true (eqb j k) (leZ (endAt ds es j) (startAt es k) || leZ (endAt ds es k) (startAt es j)) h) [
-    | inl y ↦ inl (eqb-true j k y)
-    | inr y ↦ inr (elim (or-true (leZ (endAt ds es j) (startAt es k)) (leZ (endAt ds es k) (startAt es j)) y)
-        [ inl z ↦ inl (leZ-true (endAt ds es j) (startAt es k) z) | inr z ↦ inr (leZ-true (endAt ds es k) (startAt es j) z) ])
-  ]
-
-  pub apart-show : (j k : ℕ) → ((j ≡ k → ⊥) → (endAt ds es j ≤ℤ startAt es k) ⊎ (endAt ds es k ≤ℤ startAt es j)) → apartAt ds es j k ≡ true
-  apart-show j k h = elim (ℕ-discrete j k) [ yes z ↦ or-left (eqb j k) _ (eq-eqb j k z) | no z ↦ ⊎-elim (λ y. apart-first j k y) (λ y. apart-second j k y) (h z) ]
+      show : (j k : ℕ) → ((j ≡ k → ⊥) → (endAt ds es j ≤ℤ startAt es k) ⊎ (endAt ds es k ≤ℤ startAt es j)) → apartAt ds es j k ≡ true
+      show j k h = elim (ℕ-discrete j k) [ yes z ↦ search (or-left, eq-eqb) | no z ↦ ⊎-elim (λ y. search (or-right, or-left, le-leZ)) (λ y. search (or-right, le-leZ)) (h z) ]
 
   -- neighbours apart: each task ends by the start of any later one
   later : allBelow (neighboursApart (orderOf es) es ds) (length es - 1) ≡ true → (s t : ℕ) → s < t → t < length es → endAt ds es (at s) ≤ℤ startAt es (at t)
@@ -54,25 +53,22 @@ module _ (ds : List ℕ) (es : List ℤ) where
       let b = ordered es .sorted (s + 1) t (omega arith) r in
       omega (ints, a, b)
 
-  neighbours-then-all : allBelow (neighboursApart (orderOf es) es ds) (length es - 1) ≡ true → allApart ds es (length es) ≡ true
+  neighbours-then-all : allBelow (neighboursApart (orderOf es) es ds) (length es - 1) ≡ true → Apart (length es)
   unfolding at
-  neighbours-then-all h = all-show (λ j. allBelow (apartAt ds es j) (length es)) (length es) (λ j q. all-show (apartAt ds es j) (length es) (λ k r. apart-show j k (pair j k q r)))
-    where
-      pair : (j k : ℕ) → j < length es → k < length es → (j ≡ k → ⊥) → (endAt ds es j ≤ℤ startAt es k) ⊎ (endAt ds es k ≤ℤ startAt es j)
-      pair j k q r ne =
-          let o = ordered es in
-          let s = index (orderOf es) j in
-          let t = index (orderOf es) k in
-          elim (decLt s t) [
-            | yes l ↦ inl (rw (o .there j q, o .there k r) at (later h s t l (o .placed k r)))
-            | no l ↦ (let m : t < s = elim (ℕ-discrete s t) [ yes z ↦ absurd (ne (sym (o .there j q) ∙ ap (λ (x : ℕ). getD (orderOf es) x 0) z ∙ o .there k r)) | no z ↦ omega arith ] in
-                inr (rw (o .there j q, o .there k r) at (later h t s m (o .placed j q))))
-          ]
+  neighbours-then-all h j k q r ne =
+      let o = ordered es in
+      let s = index (orderOf es) j in
+      let t = index (orderOf es) k in
+      elim (decLt s t) [
+        | yes l ↦ inl (rw (o .there j q, o .there k r) at (later h s t l (o .placed k r)))
+        | no l ↦ (let m : t < s = elim (ℕ-discrete s t) [ yes z ↦ absurd (ne (sym (o .there j q) ∙ ap (λ (x : ℕ). getD (orderOf es) x 0) z ∙ o .there k r)) | no z ↦ omega arith ] in
+            inr (rw (o .there j q, o .there k r) at (later h t s m (o .placed j q))))
+      ]
 
   -- and no two tasks overlapping: of two neighbours it is the first that ends by the start of the other, as each task lasts
-  all-then-neighbours : ((k : ℕ) → k < length es → 1 ≤ getD ds k 0) → allApart ds es (length es) ≡ true → allBelow (neighboursApart (orderOf es) es ds) (length es - 1) ≡ true
+  all-then-neighbours : ((k : ℕ) → k < length es → 1 ≤ getD ds k 0) → Apart (length es) → allBelow (neighboursApart (orderOf es) es ds) (length es - 1) ≡ true
   unfolding at up dn
-  all-then-neighbours lasts h = all-show (neighboursApart (orderOf es) es ds) (length es - 1) one
+  all-then-neighbours lasts f = all-show (neighboursApart (orderOf es) es ds) (length es - 1) one
     where
       one : (t : ℕ) → t < length es - 1 → neighboursApart (orderOf es) es ds t ≡ true
       one t q =
@@ -80,21 +76,15 @@ module _ (ds : List ℕ) (es : List ℤ) where
           let j = at t in
           let k = at (t + 1) in
           let small : k < length es = o .task (t + 1) (omega arith) in
-          let pair = all-at (apartAt ds es j) (length es) (all-at (λ i. allBelow (apartAt ds es i) (length es)) (length es) h j (o .task t (omega arith))) k small in
           let up : startAt es j ≤ℤ startAt es k = o .sorted t (t + 1) (omega arith) (omega arith) in
-          elim (apart-read j k pair) [
-            | inl z ↦ absurd (same t (omega arith) z)
-            | inr z ↦ elim z [ inl y ↦ le-leZ (endAt ds es j) (startAt es k) y | inr y ↦ absurd (omega (ints, y, up, lasts k small, sumℤ (startAt es k) (pos (getD ds k 0)))) ]
-          ]
-        where
-          same : (s : ℕ) → s + 1 < length es → at s ≡ at (s + 1) → ⊥
-          same s r z = let o = ordered es in omega (arith, o .back s (omega arith), o .back (s + 1) r, ap (index (orderOf es)) z)
+          let other : j ≡ k → ⊥ = λ z. omega (arith, o .back t (omega arith), o .back (t + 1) (omega arith), ap (index (orderOf es)) z) in
+          ⊎-elim
+          (λ y. le-leZ (endAt ds es j) (startAt es k) y)
+          (λ y. absurd (omega (ints, y, up, lasts k small, sumℤ (startAt es k) (pos (getD ds k 0)))))
+          (f j k (o .task t (omega arith)) small other)
 
   pub same-test : ((k : ℕ) → k < length es → 1 ≤ getD ds k 0) → allBelow (neighboursApart (orderOf es) es ds) (length es - 1) ≡ allApart ds es (length es)
-  same-test lasts = elim (bool (allBelow (neighboursApart (orderOf es) es ds) (length es - 1))) [
-    | inl y ↦ y ∙ sym (neighbours-then-all y)
-    | inr y ↦ elim (bool (allApart ds es (length es))) [ inl z ↦ clash (all-then-neighbours lasts z) y | inr z ↦ y ∙ sym z ]
-  ]
+  same-test lasts = let n = length es in same-tests _ _ (λ h. apart-is n .1 (neighbours-then-all h)) (λ h. all-then-neighbours lasts (apart-is n .0 h))
 
   -- the same of an array that has the order in its first places
   pub neighbours-are : (order : List ℕ) → take (length es) order ≡ orderOf es → ((k : ℕ) → k < length es → 1 ≤ getD ds k 0)

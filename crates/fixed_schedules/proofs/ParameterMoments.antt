@@ -3,19 +3,19 @@ use mathlib.Core.Path.{_≡_}
 use mathlib.Core.Bool.{true}
 use mathlib.Core.Logic.{_↔_}
 use Prim.Native.Nat.{_+_, _≤_}
-use lib.IntN.{ℤ, pos, negℤ}
-use Rattle.integers.specs.Limits.{MOMENT, LENGTH}
+use lib.IntN.{ℤ, pos}
+use Rattle.integers.specs.Limits.{MOMENT}
 use Rattle.integers.specs.Moments.{moment, zeroAt, Above}
 use Rattle.integers.proofs.Ints.{ints, up, dn, up-neg, dn-neg}
 use Rattle.integers.proofs.MomentSums.{above-show, at-moment}
-use Rattle.records.proofs.RefusedRuns.{within-is}
+use Rattle.records.proofs.TestsInOrder.{as-facts, as-tests}
 use Rattle.fixed_schedules.specs.Parameters.{momentFits, lengthFits, MomentFits, LengthFits}
 
 pub moment-is : (t : ℤ) → momentFits t ≡ true ↔ MomentFits t
-moment-is t = let w = within-is (negℤ (pos MOMENT)) (pos MOMENT) t in (λ h. record { low = w .0 h .0; high = w .0 h .1 }, λ f. w .1 (f .low, f .high))
+moment-is t = (λ h. search as-facts, λ f. search as-tests)
 
 pub length-is : (d : ℤ) → lengthFits d ≡ true ↔ LengthFits d
-length-is d = let w = within-is (pos 1) (pos LENGTH) d in (λ h. record { low = w .0 h .0; high = w .0 h .1 }, λ f. w .1 (f .low, f .high))
+length-is d = (λ h. search as-facts, λ f. search as-tests)
 
 -- a moment that a call takes is at or after the moment 0, and its moment is far from the largest u32
 pub parameter-above : (t : ℤ) → MomentFits t → Above zeroAt t

@@ -1,7 +1,6 @@
 -- The order of a fixed schedule: a sort by moments is the sort by starts, and it is a permutation of the tasks.
 use mathlib.Core.Path.{_≡_, sym, ap, ap₂, _∙_}
 use mathlib.Core.Bool.{true, false}
-use mathlib.Core.Logic.{inl, inr}
 use mathlib.Core.List.{List}
 use Prim.Native.Nat.{ℕ, _+_, _≤_, _<_}
 use native.Mathlib.Omega.{arith}
@@ -15,11 +14,11 @@ use Rattle.integers.specs.Limits.{TASKS, START}
 use Rattle.integers.specs.FilledLists.{filled, noTasks}
 use Rattle.integers.specs.Moments.{moment, instant, zeroAt, Above, momentAt}
 use Rattle.integers.specs.Orders.{index, numbers, Permutes, Ordered}
-use Rattle.integers.proofs.Bools.{bool, clash}
+use Rattle.integers.proofs.Bools.{same-tests}
 use Rattle.integers.proofs.FilledLists.{filled-at}
 use Rattle.integers.proofs.Ints.{ints, up, dn, up-neg, dn-neg, leZ-true, le-leZ}
 use Rattle.integers.proofs.MomentSums.{mono, reflect, plus, plus-above, above-show, at-moment, instant-moment}
-use Rattle.integers.proofs.Permutations.{numbers-permute, numbers-length}
+use Rattle.integers.proofs.Permutations.{permuted, numbers-permute, numbers-length}
 use Rattle.integers.proofs.StableSort.{sort-length, sort-permutes, sort-ordered}
 use Rattle.sorts.specs.Orders.{SortedBy, byKey}
 use Rattle.sorts.proofs.Sorted.{sorted-as}
@@ -29,10 +28,7 @@ use Rattle.fixed_schedules.specs.Neighbours.{Sortable}
 
 -- ---- the order of moments is that of starts
 pub moment-test : (a b : ℤ) → Above zeroAt a → Above zeroAt b → leb (moment zeroAt a) (moment zeroAt b) ≡ leZ a b
-moment-test a b p q = elim (bool (leb (moment zeroAt a) (moment zeroAt b))) [
-  | inl y ↦ y ∙ sym (le-leZ a b (reflect zeroAt a b p q (leb-true (moment zeroAt a) (moment zeroAt b) y)))
-  | inr y ↦ elim (bool (leZ a b)) [ inl z ↦ clash (le-leb (moment zeroAt a) (moment zeroAt b) (mono zeroAt a b (leZ-true a b z))) y | inr z ↦ y ∙ sym z ]
-]
+moment-test a b p q = same-tests _ _ (λ y. le-leZ a b (reflect zeroAt a b p q (leb-true _ _ y))) (λ y. le-leb _ _ (mono zeroAt a b (leZ-true a b y)))
 
 -- a start is at or after the moment 0, and its moment is far from the largest u32
 pub start-above : (z : ℤ) → StartFits z → Above zeroAt z
@@ -71,15 +67,8 @@ module _ (es : List ℤ) where
 
   -- each task has one place, and starts go from the least
   pub ordered : Ordered (length es) (λ t. getD (orderOf es) t 0) (index (orderOf es)) (λ j k. startAt es j ≤ℤ startAt es k)
-  ordered =
-      let o = sort-ordered (byStart es) start-whole start-chain (length es) (numbers 0 (length es)) (numbers-permute (length es)) in
-      record {
-        task = o .task;
-        placed = o .placed;
-        there = o .there;
-        back = o .back;
-        sorted = λ s t q r. leZ-true (startAt es (getD (orderOf es) s 0)) (startAt es (getD (orderOf es) t 0)) (o .sorted s t q r);
-      }
+  ordered = permuted (length es) (orderOf es) (λ j k. startAt es j ≤ℤ startAt es k) order-permutes
+      (λ s t q r. leZ-true _ _ (sort-ordered (byStart es) start-whole start-chain (length es) (numbers 0 (length es)) (numbers-permute (length es)) .sorted s t q r))
 
   -- the code's keys are the moments
   pub key-at : (keys : List ℕ) → length es ≤ TASKS → keys ≡ filled (momentAt es) (length es) noTasks → (k : ℕ) → k < length es → getD keys k 0 ≡ momentAt es k

@@ -8,7 +8,8 @@ use lib.IntN.{ℤ}
 use lib.ListN.{length}
 use Rattle.integers.specs.Limits.{TASKS}
 use Rattle.integers.specs.Tests.{Test, test}
-use Rattle.integers.proofs.Bools.{and-true, and-yes}
+use Rattle.integers.proofs.Bools.{and-yes}
+use Rattle.records.proofs.TestsInOrder.{both-first, both-second}
 use Rattle.integers.proofs.Tests.{more-accepted, more-refused}
 use Rattle.records.specs.declared.record.DisjunctivePropagator.{DisjunctivePropagator}
 use Rattle.fixed_schedules.specs.FixedSchedules.{fixedTests, AcceptedFixed}
@@ -23,10 +24,7 @@ module _ (r : DisjunctivePropagator) (es ls : List ℤ) (t d : ℤ) where
   t18 = test 18 (lengthFits d && momentFits t)
 
   parameters-fit : lengthFits d && momentFits t ≡ true ↔ (LengthFits d × MomentFits t)
-  parameters-fit = (
-    λ h. (let w = and-true (lengthFits d) (momentFits t) h in (length-is d .0 (w .0), moment-is t .0 (w .1))),
-    λ f. and-yes (lengthFits d) (momentFits t) (length-is d .1 (f .0)) (moment-is t .1 (f .1)),
-  )
+  parameters-fit = (λ h. search (both-first, both-second, length-is d .0, moment-is t .0), λ f. search (and-yes, length-is d .1, moment-is t .1))
 
   -- nothing refuses the call
   pub accepted-call : freeNumber r es ls t d ≡ 0 ↔ (AcceptedFixed r es ls × (LengthFits d × MomentFits t))

@@ -62,6 +62,11 @@ or-swap true true c = refl
 or-swap true false c = refl
 or-swap false b c = refl
 
+-- tests that imply each other are equal
+pub same-tests : (a b : Bool) → (a ≡ true → b ≡ true) → (b ≡ true → a ≡ true) → a ≡ b
+same-tests true b f g = sym (f refl)
+same-tests false b f g = elim (bool b) [ inl y ↦ g y ∙ sym y | inr y ↦ sym y ]
+
 pub cond-most : (b : Bool) (d : ℕ) → cond b d 0 ≤ d
 cond-most true d = omega arith
 cond-most false d = omega arith

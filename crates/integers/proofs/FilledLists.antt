@@ -13,12 +13,9 @@ use Rattle.integers.proofs.Lists.{getD-map-in}
 
 module _ {A : Type 0} (d : A) where
   -- what the places below i hold, they hold after a store at i
-  pub set-below : (f : ℕ → A) (l : List A) (i : ℕ) (v : A) → i < length l → ((k : ℕ) → k < i → getD l k d ≡ f k) → v ≡ f i → (k : ℕ) → k < i + 1 → getD (set l i v) k d ≡ f k
+  pub set-below : (f : ℕ → A) (l : List A) (i : ℕ) (v : A) → i < length l → ((k : ℕ) → k < i → getD l k d ≡ f k)
+      → v ≡ f i → (k : ℕ) → k < i + 1 → getD (set l i v) k d ≡ f k
   set-below f l i v h all e = below-more (λ (k : ℕ). getD (set l i v) k d ≡ f k) i (λ k kl. getD-set-other l i k v d (omega arith) ∙ all k kl) (getD-set-same l i v d h ∙ e)
-
-  -- and so do those above
-  pub set-above : (f : ℕ → A) (l : List A) (i : ℕ) (v : A) → ((k : ℕ) → i ≤ k → getD l k d ≡ f k) → (k : ℕ) → i + 1 ≤ k → getD (set l i v) k d ≡ f k
-  set-above f l i v all k h = getD-set-other l i k v d (omega arith) ∙ all k (omega arith)
 
   pub getD-fresh : (n k : ℕ) → getD (replicate n d) k d ≡ d
   getD-fresh zero k = refl
@@ -60,6 +57,10 @@ module _ {A : Type 0} (f : ℕ → A) where
   -- one store more
   pub filled-store : (l out : List A) (i : ℕ) (v : A) → out ≡ filled f i l → v ≡ f i → set out i v ≡ filled f (i + 1) l
   filled-store l out i v h e = ap (λ (m : List A). set m i v) h ∙ ap (set (filled f i l) i) e ∙ sym (filled-more i l)
+
+  -- the loop's end
+  pub filled-end : (l out : List A) (i n : ℕ) → out ≡ filled f i l → i ≤ n → n ≤ i → out ≡ filled f n l
+  filled-end l out i n h p q = let e : i ≡ n = omega arith in h ∙ ap (λ (k : ℕ). filled f k l) e
 
 -- what a loop leaves that puts f of each element in its place
 pub filled-all : {A : Type 0} (f : A → A) (d : A) (l : List A) → filled (λ k. f (getD l k d)) (length l) l ≡ map f l

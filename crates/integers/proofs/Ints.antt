@@ -23,6 +23,9 @@ unfoldable pub dn : ℤ → ℕ
 dn (pos n) = 0
 dn (negsuc n) = suc n
 
+none : (n : ℕ) → suc n ≤ 0 → ⊥
+none n h = omega arith
+
 le-to : (a b : ℤ) → T (leZ a b) → up a + dn b ≤ up b + dn a
 unfolding up dn
 le-to (pos a) (pos b) t = omega (arith, leb→le a b t)
@@ -34,9 +37,6 @@ le-of : (a b : ℤ) → up a + dn b ≤ up b + dn a → T (leZ a b)
 unfolding up dn
 le-of (pos a) (pos b) h = le→leb a b (omega arith)
 le-of (pos a) (negsuc b) h = let z : suc (a + b) ≤ 0 = omega arith in absurd (none (a + b) z)
-  where
-    none : (n : ℕ) → suc n ≤ 0 → ⊥
-    none n h = omega arith
 le-of (negsuc a) (pos b) h = tt
 le-of (negsuc a) (negsuc b) h = le→leb b a (omega arith)
 
@@ -51,23 +51,14 @@ lt-of : (a b : ℤ) → up a + dn b < up b + dn a → T (ltZ a b)
 unfolding up dn
 lt-of (pos a) (pos b) h = lt→ltb a b (omega arith)
 lt-of (pos a) (negsuc b) h = let z : suc (a + b) ≤ 0 = omega arith in absurd (none (a + b) z)
-  where
-    none : (n : ℕ) → suc n ≤ 0 → ⊥
-    none n h = omega arith
 lt-of (negsuc a) (pos b) h = tt
 lt-of (negsuc a) (negsuc b) h = lt→ltb b a (omega arith)
 
 eq-of : (a b : ℤ) → up a + dn b ≡ up b + dn a → a ≡ b
 unfolding up dn
 eq-of (pos a) (pos b) h = ap pos (omega arith)
-eq-of (pos a) (negsuc b) h = let z : suc (a + b) ≡ 0 = omega arith in absurd (none (a + b) z)
-  where
-    none : (n : ℕ) → suc n ≡ 0 → ⊥
-    none n h = omega arith
-eq-of (negsuc a) (pos b) h = let z : suc (a + b) ≡ 0 = omega arith in absurd (none (a + b) z)
-  where
-    none : (n : ℕ) → suc n ≡ 0 → ⊥
-    none n h = omega arith
+eq-of (pos a) (negsuc b) h = let z : suc (a + b) ≤ 0 = omega arith in absurd (none (a + b) z)
+eq-of (negsuc a) (pos b) h = let z : suc (a + b) ≤ 0 = omega arith in absurd (none (a + b) z)
 eq-of (negsuc a) (negsuc b) h = ap negsuc (omega arith)
 
 -- ---- what is known of integers, read as facts on naturals
@@ -100,17 +91,11 @@ leZ-yes-read a b e = le-to a b (bool-T e)
 pub ltZ-yes-read : (a b : ℤ) → ltZ a b ≡ true → up a + dn b < up b + dn a
 ltZ-yes-read a b e = lt-to a b (bool-T e)
 
-nle : (a b : ℤ) → leZ a b ≡ false → (up b + dn a < up a + dn b)
-nle a b e = lt-of-not-le (λ h. subst T e (le-of a b h))
-
-nlt : (a b : ℤ) → ltZ a b ≡ false → (up b + dn a ≤ up a + dn b)
-nlt a b e = le-of-suc-le-suc (lt-of-not-le (λ h. subst T e (lt-of a b h)))
-
 pub leZ-no-read : (a b : ℤ) → leZ a b ≡ false → up b + dn a < up a + dn b
-leZ-no-read = nle
+leZ-no-read a b e = lt-of-not-le (λ h. subst T e (le-of a b h))
 
 pub ltZ-no-read : (a b : ℤ) → ltZ a b ≡ false → up b + dn a ≤ up a + dn b
-ltZ-no-read = nlt
+ltZ-no-read a b e = le-of-suc-le-suc (lt-of-not-le (λ h. subst T e (lt-of a b h)))
 
 -- ---- ranges: z is in a signed width's range
 pub fits-up : {w : Width} {z : ℤ} → SFits w z → up z < 2 ^ hbits w

@@ -1,14 +1,14 @@
 -- Order, sums and differences of whole numbers at or after −o are those of their moments.
-use mathlib.Core.Path.{_≡_}
-use Prim.Native.Nat.{ℕ, zero, suc, _+_, _-_, _≤_, _<_, _^_, max}
+use mathlib.Core.Path.{_≡_, ap, _∙_}
+use Prim.Native.Nat.{ℕ, zero, suc, _+_, _≤_, _<_, _^_, max}
 use native.Mathlib.Omega.{arith}
 use lib.IntN.{ℤ, pos, negsuc, _+ℤ_}
 use lib.Signed.{mag, _≤ℤ_, _<ℤ_}
 use mir.Syntax.{w32}
-use mir.Val.{SFits}
+use mir.Val.{SFits, toZ, ofZ}
 use Rattle.integers.specs.Moments.{moment, Above, instant, zeroAt}
 use Rattle.integers.proofs.Bools.{below-suc}
-use Rattle.integers.proofs.Ints.{up, dn, ints, sumℤ, sub-law, up-neg, dn-neg, fits-up, fits-dn, fits-show}
+use Rattle.integers.proofs.Ints.{up, dn, ints, back, sumℤ, sub-law, up-neg, dn-neg, fits-up, fits-dn, fits-show}
 
 -- A whole number and its moment, as one entry of omega's list: `omega (ints, at-moment o z h)`.
 pub record AtMoment (o : ℕ) (z : ℤ) : Type 0 where
@@ -100,6 +100,10 @@ i32-above {z} h = above-show zeroAt z (omega (arith, fits-dn h))
 
 pub i32 : {z : ℤ} → SFits w32 z → I32 z
 i32 {z} h = record { below = fits-up h; above = fits-dn h; shift = omega (arith, at-moment zeroAt z (i32-above h)) }
+
+-- one that a call reads from bits
+pub moment-word : (z : ℤ) {m : ℕ} → SFits w32 z → m ≡ moment zeroAt (toZ w32 (ofZ w32 z)) → m ≡ moment zeroAt z
+moment-word z f e = e ∙ ap (moment zeroAt) (back f)
 
 pub moment-below : {z : ℤ} → SFits w32 z → moment zeroAt z < 2 ^ 32
 moment-below h = omega (ints, i32 h)

@@ -49,11 +49,10 @@ index-later x xs k z = let y : eqb x k ≡ false = ne-eqb x k z in rw (y, index)
 -- the place of what is in the list
 pub index-at : (l : List ℕ) (k : ℕ) → has l k ≡ true → (index l k < length l) × (getD l (index l k) 0 ≡ k)
 index-at [] k h = clash h (has-nil k)
-index-at (x ∷ xs) k h = by (λ y. index-at xs k y) (ℕ-discrete x k)
-  where
-    by : (has xs k ≡ true → (index xs k < length xs) × (getD xs (index xs k) 0 ≡ k)) → Dec (x ≡ k) → (index (x ∷ xs) k < length (x ∷ xs)) × (getD (x ∷ xs) (index (x ∷ xs) k) 0 ≡ k)
-    by ih (yes z) = rw (index-here x xs k z) (omega arith, z)
-    by ih (no z) = rw (index-later x xs k z) (elim (has-cases x k xs h) [ inl y ↦ absurd (z y) | inr y ↦ (let r = ih y in (omega (arith, r .0), r .1)) ])
+index-at (x ∷ xs) k h = elim (ℕ-discrete x k) [
+  | yes z ↦ rw (index-here x xs k z) (omega arith, z)
+  | no z ↦ rw (index-later x xs k z) (elim (has-cases x k xs h) [ inl y ↦ absurd (z y) | inr y ↦ (let r = index-at xs k y in (omega (arith, r .0), r .1)) ])
+]
 
 -- and the place of the number at a place, where no number occurs twice
 pub index-back : (l : List ℕ) → Distinct l → (j : ℕ) → j < length l → index l (getD l j 0) ≡ j

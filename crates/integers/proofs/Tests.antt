@@ -1,7 +1,7 @@
 -- Tests over all numbers below a bound, and the first number of a list of tests that refuses an input.
 use mathlib.Core.Path.{_≡_, refl, sym, ap, _∙_}
 use mathlib.Core.Bool.{Bool, true, false, not, _&&_}
-use mathlib.Core.Logic.{_⊎_, inl, inr, _↔_}
+use mathlib.Core.Logic.{inl, inr, _↔_}
 use mathlib.Core.List.{List, [], _∷_, _++_}
 use Prim.Native.Nat.{ℕ, zero, suc, _+_, _<_}
 use native.Mathlib.Omega.{arith}
@@ -91,11 +91,10 @@ other-cons t ts n h = let (p, q) = and-true (not (eqb (t .number) n)) (other ts 
 -- the number is 0 only where all are passed, as no test has the number 0
 pub accepted : (ts : List Test) → other ts 0 ≡ true → refusal ts ≡ 0 → AllPassed ts
 accepted [] d h = tt
-accepted (t ∷ ts) d h = by (bool (t .passed)) (accepted ts (other-cons t ts 0 d .1))
-  where
-    by : (t .passed ≡ true) ⊎ (t .passed ≡ false) → (refusal ts ≡ 0 → AllPassed ts) → AllPassed (t ∷ ts)
-    by (inl y) ih = (y, ih (sym (refusal-next t ts y) ∙ h))
-    by (inr y) ih = absurd (other-cons t ts 0 d .0 (sym (refusal-here t ts y) ∙ h))
+accepted (t ∷ ts) d h = elim (bool (t .passed)) [
+  | inl y ↦ (y, accepted ts (other-cons t ts 0 d .1) (sym (refusal-next t ts y) ∙ h))
+  | inr y ↦ absurd (other-cons t ts 0 d .0 (sym (refusal-here t ts y) ∙ h))
+]
 
 -- a number that is none of the tests' is not given
 pub not-given : (ts : List Test) (n : ℕ) → unused ts n ≡ true → refusal ts ≡ n → ⊥
@@ -151,8 +150,7 @@ refuses (b ∷ bs) t after h q = refusal-next b (bs ++ (t ∷ after)) (h .0) ∙
 -- tests before others: the first number that they give
 pub refusal-before : (ts us : List Test) → (refusal ts ≡ 0 → ⊥) → refusal (ts ++ us) ≡ refusal ts
 refusal-before [] us h = absurd (h refusal-none)
-refusal-before (t ∷ ts) us h = by (bool (t .passed)) (refusal-before ts us)
-  where
-    by : (t .passed ≡ true) ⊎ (t .passed ≡ false) → ((refusal ts ≡ 0 → ⊥) → refusal (ts ++ us) ≡ refusal ts) → refusal (t ∷ ts ++ us) ≡ refusal (t ∷ ts)
-    by (inl y) ih = refusal-next t (ts ++ us) y ∙ ih (λ z. h (refusal-next t ts y ∙ z)) ∙ sym (refusal-next t ts y)
-    by (inr y) ih = refusal-here t (ts ++ us) y ∙ sym (refusal-here t ts y)
+refusal-before (t ∷ ts) us h = elim (bool (t .passed)) [
+  | inl y ↦ refusal-next t (ts ++ us) y ∙ refusal-before ts us (λ z. h (refusal-next t ts y ∙ z)) ∙ sym (refusal-next t ts y)
+  | inr y ↦ refusal-here t (ts ++ us) y ∙ sym (refusal-here t ts y)
+]

@@ -29,7 +29,7 @@ module _ (r : DisjunctivePropagator) (es ls : List ℤ) (bytes : ℕ) where
   pub accepted-page : pageNumber r es ls bytes ≡ 0 ↔ AcceptedPage r es ls bytes
   accepted-page =
       let w = more-accepted (fixedTests r es ls) t15 (passed-fixed r es ls) room-is refl refl in
-      (λ h. (let f = w .0 h in record { schedule = f .0; room = f .1 }), λ a. w .1 (a .schedule, a .room))
+      (λ h. (let f = w .0 h in search), λ a. w .1 (search))
 
   -- The sole ground for each number: those of the schedule, and the call's own.
   pub sole-grounds : SoleGrounds r es ls (pageNumber r es ls bytes)

@@ -1,6 +1,6 @@
 -- The test of a record says what a lawful record is.
-use mathlib.Core.Path.{_≡_, _∙_}
-use mathlib.Core.Bool.{true, false}
+use mathlib.Core.Path.{_≡_}
+use mathlib.Core.Bool.{Bool, true, false, not}
 use mathlib.Core.Logic.{inl, inr, _↔_}
 use mathlib.Core.List.{List}
 use Prim.Native.Nat.{ℕ, _≤_, _<_}
@@ -8,21 +8,21 @@ use native.Mathlib.Omega.{arith}
 use native.Mathlib.Decide.{decLt}
 use lib.Dec.{leb, ltb, eqb}
 use lib.ListN.{getD}
-use borrow.Author.Tests.{leb-true, le-leb, ltb-true, lt-ltb, eqb-true, eq-eqb}
+use borrow.Author.Tests.{leb-true, le-leb, lt-leb, ltb-true, lt-ltb, eqb-true, eq-eqb}
 use Rattle.integers.specs.Limits.{TASKS, DURATIONS}
 use Rattle.integers.specs.Tests.{allBelow}
-use Rattle.integers.proofs.Bools.{bool, and-true, and-yes, and-is, or-true, or-right}
+use Rattle.integers.proofs.Bools.{bool, or-true, or-right}
 use Rattle.integers.proofs.Tests.{all-at, all-show}
-use Rattle.scheduling.specs.Scheduling.{total}
 use Rattle.records.specs.declared.record.DisjunctivePropagator.{DisjunctivePropagator}
-use Rattle.records.specs.Records.{countFits, sumFits, totalTrue, lastsAt, unusedAt, unusedZero, lawfulRecord, Lawful}
+use Rattle.records.specs.Records.{countFits, lastsAt, unusedAt, unusedZero, lawfulRecord, Lawful}
+use Rattle.records.proofs.TestsInOrder.{said-yes, as-facts, as-tests}
 
 -- the test of the number of tasks
 pub count-is : (n : ℕ) → countFits n ≡ true ↔ ((1 ≤ n) × (n ≤ TASKS))
-count-is n = (
-  λ h. (let a = and-true (leb 1 n) (leb n TASKS) h in (leb-true 1 n (a .0), leb-true n TASKS (a .1))),
-  λ f. and-yes (leb 1 n) (leb n TASKS) (le-leb 1 n (f .0)) (le-leb n TASKS (f .1)),
-)
+count-is n = (λ h. search as-facts, λ f. search as-tests)
+
+pub few-said : {n : ℕ} {r : Bool} → r ≡ countFits n → not r ≡ false → n ≤ TASKS
+few-said {n} {r} e h = count-is n .0 (said-yes e h) .1
 
 -- a place of a task, and one that is unused
 module _ (durations : List ℕ) (n k : ℕ) where
@@ -42,64 +42,29 @@ module _ (durations : List ℕ) (n k : ℕ) where
   pub unused-not : n ≤ k → (getD durations k 0 ≡ 0 → ⊥) → unusedAt durations n k ≡ false
   unused-not q h = elim (bool (unusedAt durations n k)) [ inl y ↦ absurd (h (unused-read q y)) | inr y ↦ y ]
 
--- The tests of a record, all passed.
-pub record Passes (r : DisjunctivePropagator) : Type 0 where
-  pub counted : countFits (r .count) ≡ true
-  pub lasting : allBelow (lastsAt (r .durations)) (r .count) ≡ true
-  pub summed : sumFits (λ k. getD (r .durations) k 0) (r .count) ≡ true
-  pub stored : totalTrue (r .total) (r .durations) (r .count) ≡ true
-  pub unused : unusedZero (r .durations) (r .count) ≡ true
+-- a stored total that is the sum is tested in its place
+module _ (stored sum : ℕ) {r : Bool} (e : r ≡ eqb stored sum) (h : not r ≡ false) where
+  pub stored-over : DURATIONS < stored → leb sum DURATIONS ≡ false
+  stored-over q = lt-leb sum DURATIONS (omega (arith, eqb-true stored sum (said-yes e h)))
 
-module _ (r : DisjunctivePropagator) where
-  pub passes : lawfulRecord r ≡ true → Passes r
-  unfolding lawfulRecord
-  passes h =
-      let a = and-true (countFits (r .count)) _ h in
-      let b = and-true (allBelow (lastsAt (r .durations)) (r .count)) _ (a .1) in
-      let c = and-true (sumFits (λ k. getD (r .durations) k 0) (r .count)) _ (b .1) in
-      let s = and-true (totalTrue (r .total) (r .durations) (r .count)) (unusedZero (r .durations) (r .count)) (c .1) in
-      record { counted = a .0; lasting = b .0; summed = c .0; stored = s .0; unused = s .1 }
+  pub stored-fits : stored ≤ DURATIONS → leb sum DURATIONS ≡ true
+  stored-fits q = le-leb sum DURATIONS (omega (arith, eqb-true stored sum (said-yes e h)))
 
-  pub unlawful : (Passes r → ⊥) → lawfulRecord r ≡ false
-  unlawful h = elim (bool (lawfulRecord r)) [ inl y ↦ absurd (h (passes y)) | inr y ↦ y ]
+-- what the tests of all places say of each
+module _ (ds : List ℕ) (n : ℕ) where
+  lasts-at : (k : ℕ) → k < n → allBelow (lastsAt ds) n ≡ true → 1 ≤ getD ds k 0
+  lasts-at k q h = leb-true 1 (getD ds k 0) (all-at (lastsAt ds) n h k q)
 
-  -- where all before it are passed, the last test decides
-  pub last-test : countFits (r .count) ≡ true → allBelow (lastsAt (r .durations)) (r .count) ≡ true → sumFits (λ k. getD (r .durations) k 0) (r .count) ≡ true
-      → totalTrue (r .total) (r .durations) (r .count) ≡ true → lawfulRecord r ≡ unusedZero (r .durations) (r .count)
-  unfolding lawfulRecord
-  last-test a b c s =
-      and-is (countFits (r .count)) _ a
-      ∙ and-is (allBelow (lastsAt (r .durations)) (r .count)) _ b
-      ∙ and-is (sumFits (λ k. getD (r .durations) k 0) (r .count)) _ c
-      ∙ and-is (totalTrue (r .total) (r .durations) (r .count)) (unusedZero (r .durations) (r .count)) s
+  unused-at : (k : ℕ) → n ≤ k → k < TASKS → unusedZero ds n ≡ true → getD ds k 0 ≡ 0
+  unused-at k p q h = unused-read ds n k p (all-at (unusedAt ds n) TASKS h k q)
 
-  facts : Passes r → Lawful r
-  facts p =
-      let n = count-is (r .count) .0 (p .counted) in
-      record {
-        some = n .0;
-        few = n .1;
-        lasts = λ k q. leb-true 1 (getD (r .durations) k 0) (all-at (lastsAt (r .durations)) (r .count) (p .lasting) k q);
-        sum = leb-true (total (λ k. getD (r .durations) k 0) (r .count)) DURATIONS (p .summed);
-        stored = eqb-true (r .total) (total (λ k. getD (r .durations) k 0) (r .count)) (p .stored);
-        unused = λ k q s. unused-read (r .durations) (r .count) k q (all-at (unusedAt (r .durations) (r .count)) TASKS (p .unused) k s);
-      }
+  unused-all : ((k : ℕ) → n ≤ k → k < TASKS → getD ds k 0 ≡ 0) → unusedZero ds n ≡ true
+  unused-all f = all-show (unusedAt ds n) TASKS (λ k q. elim (decLt k n) [ yes h ↦ unused-task ds n k h | no h ↦ unused-show ds n k (f k (omega arith) q) ])
 
-  tests : Lawful r → lawfulRecord r ≡ true
-  tests l =
-      last-test
-      (count-is (r .count) .1 (l .some, l .few))
-      (all-show (lastsAt (r .durations)) (r .count) (λ k q. le-leb 1 (getD (r .durations) k 0) (l .lasts k q)))
-      (le-leb (total (λ k. getD (r .durations) k 0) (r .count)) DURATIONS (l .sum))
-      (eq-eqb (r .total) (total (λ k. getD (r .durations) k 0) (r .count)) (l .stored))
-      ∙ all-show (unusedAt (r .durations) (r .count)) TASKS unused
-    where
-      unused : (k : ℕ) → k < TASKS → unusedAt (r .durations) (r .count) k ≡ true
-      unused k s = elim (decLt k (r .count)) [
-        | yes q ↦ unused-task (r .durations) (r .count) k q
-        | no q ↦ unused-show (r .durations) (r .count) k (l .unused k (omega arith) s)
-      ]
-
-  -- the test says what a lawful record is
-  pub lawful-is : lawfulRecord r ≡ true ↔ Lawful r
-  lawful-is = (λ h. facts (passes h), tests)
+-- the test says what a lawful record is
+pub lawful-is : (r : DisjunctivePropagator) → lawfulRecord r ≡ true ↔ Lawful r
+unfolding lawfulRecord
+lawful-is r = (facts, λ l. search (as-tests, all-show, unused-all, l .lasts, l .unused) depth 7)
+  where
+    facts : lawfulRecord r ≡ true → Lawful r
+    facts h = search (as-facts, lasts-at, unused-at)

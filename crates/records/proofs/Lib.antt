@@ -3,6 +3,7 @@ pub mod UnusedPlaces
 pub mod Creation
 pub mod CreationNumbers
 pub mod RefusedRuns
+pub mod TestsInOrder
 pub mod LastTests
 pub mod InputGrounds
 pub mod AcceptedTasks

@@ -1,95 +1,79 @@
 -- What refuses a call: what holds where nothing does, and the sole ground for each number of a run.
 use mathlib.Core.Path.{_≡_, refl, sym, _∙_}
-use mathlib.Core.Bool.{Bool, true, false, _&&_}
+use mathlib.Core.Bool.{Bool, true, false, not, _&&_}
 use mathlib.Core.Logic.{_↔_, inl, inr}
 use mathlib.Core.List.{List, [], _∷_, _++_}
-use Prim.Native.Nat.{ℕ, _*_, _<_}
+use Prim.Native.Nat.{ℕ, _*_, _≤_, _<_}
 use native.Mathlib.Omega.{arith}
+use native.Mathlib.Nat.{mul-le-mul-left}
 use lib.Dec.{leb, eqb}
-use lib.IntN.{ℤ, pos, negℤ}
+use lib.IntN.{ℤ, pos}
 use lib.Signed.{leZ, _≤ℤ_}
 use lib.ListN.{length, getD}
-use borrow.Author.Tests.{leb-true, le-leb, eqb-true, eq-eqb}
-use Rattle.integers.specs.Limits.{START, TASKS}
+use borrow.Author.Tests.{not-true, not-false}
+use Rattle.integers.specs.Limits.{TASKS}
 use Rattle.integers.specs.Tests.{Test, test, allBelow, refusal, AllPassed}
-use Rattle.integers.proofs.Bools.{bool, and-true, and-yes}
-use Rattle.integers.proofs.Ints.{leZ-true, le-leZ}
-use Rattle.integers.proofs.Tests.{all-at, all-show, other, unused, accepts, accepted, refuses, refusal-after, broken, first-refuses, first-holds, behind, more-accepted}
+use Rattle.integers.proofs.Bools.{bool}
+use Rattle.integers.proofs.Ints.{leZ-true}
+use Rattle.integers.proofs.Tests.{all-at, all-show, other, unused, accepts, accepted, refuses, broken, first-refuses, first-holds, behind, more-accepted}
 use Rattle.records.specs.declared.record.DisjunctivePropagator.{DisjunctivePropagator}
-use Rattle.records.specs.Records.{lawfulRecord, Lawful}
+use Rattle.records.specs.Records.{lawfulRecord, Lawful, recordOf}
 use Rattle.records.specs.Refusals.{startFitsAt, rangeFitsAt, rangeTests, rangeNumber, inputTests, inputNumber, runNumber, StartFits, CountsFit, StartsFit, RangesFit, WordsFit, AcceptedInput}
 use Rattle.records.specs.Refusals.{AcceptedRun}
+use Rattle.records.proofs.LastTests.{tests-first, last-refuses, last-passes}
 use Rattle.records.proofs.Lawful.{lawful-is}
+use Rattle.records.proofs.TestsInOrder.{as-facts, as-tests}
 
 -- a number from low to high, tested and as a fact
 pub within-is : (low high z : ℤ) → leZ low z && leZ z high ≡ true ↔ ((low ≤ℤ z) × (z ≤ℤ high))
-within-is low high z = (
-  λ h. (let a = and-true (leZ low z) (leZ z high) h in (leZ-true low z (a .0), leZ-true z high (a .1))),
-  λ f. and-yes (leZ low z) (leZ z high) (le-leZ low z (f .0)) (le-leZ z high (f .1)),
-)
+within-is low high z = (λ h. search as-facts, λ f. search as-tests)
 
 starts-in : (xs : List ℤ) → allBelow (startFitsAt xs) (length xs) ≡ true ↔ ((k : ℕ) → k < length xs → StartFits (getD xs k (pos 0)))
-starts-in xs = (
-  λ h k q. (let f = within-is (negℤ (pos START)) (pos START) (getD xs k (pos 0)) .0 (all-at (startFitsAt xs) (length xs) h k q) in record { low = f .0; high = f .1 }),
-  λ f. all-show (startFitsAt xs) (length xs) (λ k q. within-is (negℤ (pos START)) (pos START) (getD xs k (pos 0)) .1 (f k q .low, f k q .high)),
-)
+starts-in xs = (facts, λ f. all-show (startFitsAt xs) (length xs) (λ k q. (let g = f k q in search as-tests)))
+  where
+    facts : allBelow (startFitsAt xs) (length xs) ≡ true → (k : ℕ) → k < length xs → StartFits (getD xs k (pos 0))
+    facts h k q = let g = all-at (startFitsAt xs) (length xs) h k q in search as-facts
 
 module _ (n : ℕ) (es ls : List ℤ) where
   pub counts-are : eqb (length es) n && eqb (length ls) n ≡ true ↔ CountsFit n es ls
-  counts-are = (
-    λ h. (let a = and-true (eqb (length es) n) (eqb (length ls) n) h in record { earliest = eqb-true (length es) n (a .0); latest = eqb-true (length ls) n (a .1) }),
-    λ f. and-yes (eqb (length es) n) (eqb (length ls) n) (eq-eqb (length es) n (f .earliest)) (eq-eqb (length ls) n (f .latest)),
-  )
+  counts-are = (λ h. search as-facts, λ f. search as-tests)
 
   pub starts-are : allBelow (startFitsAt es) (length es) && allBelow (startFitsAt ls) (length ls) ≡ true ↔ StartsFit es ls
-  starts-are = (
-    λ h. (let a = and-true (allBelow (startFitsAt es) (length es)) (allBelow (startFitsAt ls) (length ls)) h in record { earliest = starts-in es .0 (a .0); latest = starts-in ls .0 (a .1) }),
-    λ f. and-yes (allBelow (startFitsAt es) (length es)) (allBelow (startFitsAt ls) (length ls)) (starts-in es .1 (f .earliest)) (starts-in ls .1 (f .latest)),
-  )
+  starts-are = (λ h. search (as-facts, starts-in es .0, starts-in ls .0), λ f. search (as-tests, starts-in es .1, starts-in ls .1))
 
   pub ranges-are : allBelow (rangeFitsAt es ls) (length es) ≡ true ↔ RangesFit es ls
-  ranges-are = (
-    λ h k q. leZ-true (getD es k (pos 0)) (getD ls k (pos 0)) (all-at (rangeFitsAt es ls) (length es) h k q),
-    λ f. all-show (rangeFitsAt es ls) (length es) (λ k q. le-leZ (getD es k (pos 0)) (getD ls k (pos 0)) (f k q)),
-  )
+  ranges-are = (λ h k q. leZ-true _ _ (all-at (rangeFitsAt es ls) (length es) h k q), λ f. search (as-tests, all-show, f))
 
 words-are : (n posts atoms : ℕ) → leb (4 * n) posts && leb (6 * (n * n)) atoms ≡ true ↔ WordsFit n posts atoms
-words-are n posts atoms = (
-  λ h. (let a = and-true (leb (4 * n) posts) (leb (6 * (n * n)) atoms) h in record { posts = leb-true (4 * n) posts (a .0); atoms = leb-true (6 * (n * n)) atoms (a .1) }),
-  λ f. and-yes (leb (4 * n) posts) (leb (6 * (n * n)) atoms) (le-leb (4 * n) posts (f .posts)) (le-leb (6 * (n * n)) atoms (f .atoms)),
-)
+words-are n posts atoms = (λ h. search as-facts, λ f. search as-tests)
 
 -- all tests of the record and its ranges are passed
-pub passed-ranges : (r : DisjunctivePropagator) (es ls : List ℤ) → AllPassed (rangeTests r es ls) ↔ AcceptedInput r es ls
-passed-ranges r es ls = (facts, tests)
-  where
-    facts : AllPassed (rangeTests r es ls) → AcceptedInput r es ls
-    facts (a, (b, (c, (d, _)))) = record { lawful = lawful-is r .0 a; counts = counts-are (r .count) es ls .0 b; starts = starts-are (r .count) es ls .0 c; ranges = ranges-are (r .count) es ls .0 d }
-
-    tests : AcceptedInput r es ls → AllPassed (rangeTests r es ls)
-    tests f = (lawful-is r .1 (f .lawful), (counts-are (r .count) es ls .1 (f .counts), (starts-are (r .count) es ls .1 (f .starts), (ranges-are (r .count) es ls .1 (f .ranges), tt))))
+pub passed-ranges : (r : DisjunctivePropagator) (es ls : List ℤ)
+    → AllPassed (rangeTests r es ls) ↔ AcceptedInput r es ls
+passed-ranges r es ls = let n = r .count in (
+  λ h. search (lawful-is r .0, counts-are n es ls .0, starts-are n es ls .0, ranges-are n es ls .0),
+  λ f. search (lawful-is r .1, counts-are n es ls .1, starts-are n es ls .1, ranges-are n es ls .1),
+)
 
 -- and that of the bars
-pub passed-input : (r : DisjunctivePropagator) (es ls : List ℤ) (bars : Bool) → AllPassed (inputTests r es ls bars) ↔ (AcceptedInput r es ls × (bars ≡ true))
-passed-input r es ls bars = (facts, tests)
-  where
-    facts : AllPassed (inputTests r es ls bars) → AcceptedInput r es ls × (bars ≡ true)
-    facts (a, (b, (c, (d, (e, _))))) = (passed-ranges r es ls .0 (a, (b, (c, (d, tt)))), e)
-
-    tests : AcceptedInput r es ls × (bars ≡ true) → AllPassed (inputTests r es ls bars)
-    tests (f, e) = let (a, (b, (c, (d, _)))) = passed-ranges r es ls .1 f in (a, (b, (c, (d, (e, tt)))))
+pub passed-input : (r : DisjunctivePropagator) (es ls : List ℤ) (bars : Bool)
+    → AllPassed (inputTests r es ls bars) ↔ (AcceptedInput r es ls × (bars ≡ true))
+passed-input r es ls bars = (λ h. search (passed-ranges r es ls .0), λ f. (let g = passed-ranges r es ls .1 (f .0) in search))
 
 -- nothing is wrong with them
-pub ranges-passed : (r : DisjunctivePropagator) (es ls : List ℤ) → rangeNumber r es ls ≡ 0 → AllPassed (rangeTests r es ls)
+pub ranges-passed : (r : DisjunctivePropagator) (es ls : List ℤ) → rangeNumber r es ls ≡ 0
+    → AllPassed (rangeTests r es ls)
 ranges-passed r es ls h = accepted (rangeTests r es ls) refl h
 
-pub input-passed : (r : DisjunctivePropagator) (es ls : List ℤ) (bars : Bool) → inputNumber r es ls bars ≡ 0 → AllPassed (inputTests r es ls bars)
+pub input-passed : (r : DisjunctivePropagator) (es ls : List ℤ) (bars : Bool) → inputNumber r es ls bars ≡ 0
+    → AllPassed (inputTests r es ls bars)
 input-passed r es ls bars h = accepted (inputTests r es ls bars) refl h
 
 pub accepted-ranges : (r : DisjunctivePropagator) (es ls : List ℤ) → rangeNumber r es ls ≡ 0 ↔ AcceptedInput r es ls
 accepted-ranges r es ls = (λ h. passed-ranges r es ls .0 (ranges-passed r es ls h), λ f. accepts (rangeTests r es ls) (passed-ranges r es ls .1 f))
 
-pub accepted-input : (r : DisjunctivePropagator) (es ls : List ℤ) (bars : Bool) → inputNumber r es ls bars ≡ 0 ↔ (AcceptedInput r es ls × (bars ≡ true))
+pub accepted-input : (r : DisjunctivePropagator) (es ls : List ℤ) (bars : Bool)
+    → inputNumber r es ls bars ≡ 0 ↔ (AcceptedInput r es ls × (bars ≡ true))
 accepted-input r es ls bars = (λ h. passed-input r es ls bars .0 (input-passed r es ls bars h), λ f. accepts (inputTests r es ls bars) (passed-input r es ls bars .1 f))
 
 -- The sole ground for each number of a record and its ranges, where other tests follow that do not have it: all before it hold, and its own does not.
@@ -108,12 +92,10 @@ module _ (r : DisjunctivePropagator) (es ls : List ℤ) (after : List Test) wher
       (λ _. first-holds _ _ (counts-are (r .count) es ls) refl (λ _. first-holds _ _ (starts-are (r .count) es ls) refl (λ _. first-refuses _ _ (ranges-are (r .count) es ls) other)))
 
   -- a number that is none of theirs: all of them hold, and the tests after them give it
-  pub range-holds : {n : ℕ} {G : Type 0} → other (rangeTests r es ls) n ≡ true → (CountsFit (r .count) es ls → refusal after ≡ n ↔ G)
+  pub range-holds : {n : ℕ} {G : Type 0} → other (rangeTests r es ls) n ≡ true
+      → (CountsFit (r .count) es ls → refusal after ≡ n ↔ G)
       → refusal (rangeTests r es ls ++ after) ≡ n ↔ (Lawful r × (CountsFit (r .count) es ls × (StartsFit es ls × (RangesFit es ls × G))))
-  range-holds d rest = let w = behind (rangeTests r es ls) after (passed-ranges r es ls) d (λ a. rest (a .counts)) in (
-    λ h. (let (a, g) = w .0 h in (a .lawful, (a .counts, (a .starts, (a .ranges, g))))),
-    λ f. w .1 (record { lawful = f .0; counts = f .1 .0; starts = f .1 .1 .0; ranges = f .1 .1 .1 .0 }, f .1 .1 .1 .1),
-  )
+  range-holds d rest = let w = behind (rangeTests r es ls) after (passed-ranges r es ls) d (λ a. rest (a .counts)) in (λ h. (let g = w .0 h in search), λ f. w .1 (search))
 
 -- The same with the bars. Theirs is the only new number: 20, 10, 3 and 4 have the grounds above, with the test of the bars among those that follow.
 module _ (r : DisjunctivePropagator) (es ls : List ℤ) (bars : Bool) (after : List Test) where
@@ -126,12 +108,10 @@ module _ (r : DisjunctivePropagator) (es ls : List ℤ) (bars : Bool) (after : L
       alone : refusal (test 13 bars ∷ after) ≡ 13 ↔ (bars ≡ true → ⊥)
       alone = first-refuses (test 13 bars) after same other
 
-  pub input-holds : {n : ℕ} {G : Type 0} → other (inputTests r es ls bars) n ≡ true → (CountsFit (r .count) es ls → refusal after ≡ n ↔ G)
+  pub input-holds : {n : ℕ} {G : Type 0} → other (inputTests r es ls bars) n ≡ true
+      → (CountsFit (r .count) es ls → refusal after ≡ n ↔ G)
       → refusal (inputTests r es ls bars ++ after) ≡ n ↔ (Lawful r × (CountsFit (r .count) es ls × (StartsFit es ls × (RangesFit es ls × ((bars ≡ true) × G)))))
-  input-holds d rest = let w = behind (inputTests r es ls bars) after (passed-input r es ls bars) d (λ a. rest (a .0 .counts)) in (
-    λ h. (let ((a, b), g) = w .0 h in (a .lawful, (a .counts, (a .starts, (a .ranges, (b, g)))))),
-    λ f. w .1 ((record { lawful = f .0; counts = f .1 .0; starts = f .1 .1 .0; ranges = f .1 .1 .1 .0 }, f .1 .1 .1 .1 .0), f .1 .1 .1 .1 .1),
-  )
+  input-holds d rest = let w = behind (inputTests r es ls bars) after (passed-input r es ls bars) d (λ a. rest (a .0 .counts)) in (λ h. (let g = w .0 h in search), λ f. w .1 (search))
 
 -- More ranges than any record has tasks are refused by the number that refuses none, 20 or 10, whatever tests follow.
 pub range-many : (r : DisjunctivePropagator) (es ls : List ℤ) (after after′ : List Test) → TASKS < length es
@@ -147,47 +127,50 @@ range-many r es ls after after′ many = elim (bool (lawfulRecord r)) [
     by-20 : (xs zs : List ℤ) (rest : List Test) → lawfulRecord r ≡ false → refusal (rangeTests r xs zs ++ rest) ≡ 20
     by-20 xs zs rest y = refuses [] (test 20 _) _ tt y
 
-    by-10 : (xs zs : List ℤ) (rest : List Test) → lawfulRecord r ≡ true → (CountsFit (r .count) xs zs → ⊥) → refusal (rangeTests r xs zs ++ rest) ≡ 10
+    by-10 : (xs zs : List ℤ) (rest : List Test) → lawfulRecord r ≡ true → (CountsFit (r .count) xs zs → ⊥)
+        → refusal (rangeTests r xs zs ++ rest) ≡ 10
     by-10 xs zs rest y not = refuses (test 20 _ ∷ []) (test 10 _) _ (y, tt) (broken (counts-are (r .count) xs zs) .1 not)
 
 -- and whether or not the bars of either fit
-pub input-many : (r : DisjunctivePropagator) (es ls : List ℤ) (bars bars′ : Bool) (after after′ : List Test) → TASKS < length es
+pub input-many : (r : DisjunctivePropagator) (es ls : List ℤ) (bars bars′ : Bool) (after after′ : List Test)
+    → TASKS < length es
     → (refusal (inputTests r [] [] bars ++ after) ≡ refusal (inputTests r es ls bars′ ++ after′)) × (refusal (inputTests r es ls bars′ ++ after′) ≡ 0 → ⊥)
 input-many r es ls bars bars′ after after′ many = range-many r es ls (test 13 bars ∷ after) (test 13 bars′ ∷ after′) many
 
 module _ (r : DisjunctivePropagator) (es ls : List ℤ) (bars : Bool) (posts atoms : ℕ) where
-  abbrev t9 : Test
+  abbrev pub t9 : Test
   t9 = test 9 (leb (4 * r .count) posts && leb (6 * (r .count * r .count)) atoms)
-
-  -- only the words are left to test
-  pub words-short : AllPassed (inputTests r es ls bars) → leb (4 * r .count) posts && leb (6 * (r .count * r .count)) atoms ≡ false → runNumber r es ls bars posts atoms ≡ 9
-  words-short h q = refuses (inputTests r es ls bars) t9 [] h q
-
-  pub words-enough : AllPassed (inputTests r es ls bars) → leb (4 * r .count) posts && leb (6 * (r .count * r .count)) atoms ≡ true → runNumber r es ls bars posts atoms ≡ 0
-  words-enough h q = refusal-after (inputTests r es ls bars) (t9 ∷ []) h ∙ accepts (t9 ∷ []) (q, tt)
 
   -- nothing refuses the run
   pub accepted-run : runNumber r es ls bars posts atoms ≡ 0 ↔ (AcceptedRun r es ls posts atoms × (bars ≡ true))
-  accepted-run = let w = more-accepted (inputTests r es ls bars) t9 (passed-input r es ls bars) (words-are (r .count) posts atoms) refl refl in (
-    λ h. (let ((a, b), w) = w .0 h in (record { lawful = a .lawful; counts = a .counts; starts = a .starts; ranges = a .ranges; words = w }, b)),
-    λ f. w .1 ((record { lawful = f .0 .lawful; counts = f .0 .counts; starts = f .0 .starts; ranges = f .0 .ranges }, f .1), f .0 .words),
-  )
+  accepted-run = let w = more-accepted (inputTests r es ls bars) t9 (passed-input r es ls bars) (words-are (r .count) posts atoms) refl refl in (λ h. (let g = w .0 h in search), λ f. w .1 (search))
 
-  -- The sole ground for each number: all before it hold, and its own does not.
-  pub refused-20 : runNumber r es ls bars posts atoms ≡ 20 ↔ (Lawful r → ⊥)
-  refused-20 = range-20 r es ls (test 13 bars ∷ t9 ∷ []) refl
-
-  pub refused-10 : runNumber r es ls bars posts atoms ≡ 10 ↔ (Lawful r × (CountsFit (r .count) es ls → ⊥))
-  refused-10 = range-10 r es ls (test 13 bars ∷ t9 ∷ []) refl
-
-  pub refused-3 : runNumber r es ls bars posts atoms ≡ 3 ↔ (Lawful r × (CountsFit (r .count) es ls × (StartsFit es ls → ⊥)))
-  refused-3 = range-3 r es ls (test 13 bars ∷ t9 ∷ []) refl
-
-  pub refused-4 : runNumber r es ls bars posts atoms ≡ 4 ↔ (Lawful r × (CountsFit (r .count) es ls × (StartsFit es ls × (RangesFit es ls → ⊥))))
-  refused-4 = range-4 r es ls (test 13 bars ∷ t9 ∷ []) refl
-
-  pub refused-13 : runNumber r es ls bars posts atoms ≡ 13 ↔ (Lawful r × (CountsFit (r .count) es ls × (StartsFit es ls × (RangesFit es ls × (bars ≡ false)))))
-  refused-13 = input-13 r es ls bars (t9 ∷ []) refl
-
+  -- the sole ground for the words' number: all before it hold, and its own does not
   pub refused-9 : runNumber r es ls bars posts atoms ≡ 9 ↔ (Lawful r × (CountsFit (r .count) es ls × (StartsFit es ls × (RangesFit es ls × ((bars ≡ true) × (WordsFit (r .count) posts atoms → ⊥))))))
   refused-9 = input-holds r es ls bars (t9 ∷ []) refl (λ _. first-refuses t9 [] (words-are (r .count) posts atoms) refl)
+
+-- What a call has answered goes before: the number of the record and its ranges before the bars, and that of these three before the words.
+module _ (r : DisjunctivePropagator) (es ls : List ℤ) (bars : Bool) {m : ℕ} where
+  pub ranges-first : m ≡ rangeNumber r es ls → (m ≡ 0 → ⊥) → m ≡ inputNumber r es ls bars
+  ranges-first e not = tests-first (rangeTests r es ls) e (test 13 bars ∷ []) not
+
+  pub bars-refuse : m ≡ rangeNumber r es ls → m ≡ 0 → not bars ≡ true → 13 ≡ inputNumber r es ls bars
+  bars-refuse e z h = last-refuses (rangeTests r es ls) e refl z 13 bars (not-true bars h)
+
+  pub bars-pass : m ≡ rangeNumber r es ls → m ≡ 0 → not bars ≡ false → m ≡ inputNumber r es ls bars
+  bars-pass e z h = z ∙ last-passes (rangeTests r es ls) e refl z 13 bars (not-false bars h)
+
+  module _ (posts atoms : ℕ) (e : m ≡ inputNumber r es ls bars) where
+    pub input-first : (m ≡ 0 → ⊥) → m ≡ runNumber r es ls bars posts atoms
+    input-first not = tests-first (inputTests r es ls bars) e (t9 r es ls bars posts atoms ∷ []) not
+
+    pub words-short : m ≡ 0 → t9 r es ls bars posts atoms .passed ≡ false → 9 ≡ runNumber r es ls bars posts atoms
+    words-short z q = last-refuses (inputTests r es ls bars) e refl z 9 _ q
+
+    pub words-enough : m ≡ 0 → t9 r es ls bars posts atoms .passed ≡ true → 0 ≡ runNumber r es ls bars posts atoms
+    words-enough z q = last-passes (inputTests r es ls bars) e refl z 9 _ q
+
+-- where those are passed there are few tasks, whose square is small
+pub few-tasks : (n : ℕ) (ds : List ℕ) (stored : ℕ) (es ls : List ℤ) (bars : Bool) {m : ℕ}
+    → m ≡ inputNumber (recordOf n ds stored) es ls bars → m ≡ 0 → (n ≤ TASKS) × (n * n ≤ n * TASKS)
+few-tasks n ds stored es ls bars e z = let few = accepted-input (recordOf n ds stored) es ls bars .0 (sym e ∙ z) .0 .lawful .few in (few, mul-le-mul-left n few)

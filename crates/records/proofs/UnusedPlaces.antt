@@ -13,6 +13,7 @@ use Rattle.integers.specs.Limits.{TASKS}
 use Rattle.integers.specs.Tests.{allBelow}
 use Rattle.integers.proofs.Tests.{all-show, all-more, all-broken}
 use Rattle.records.specs.Records.{unusedAt}
+use Rattle.records.proofs.OneMore.{all-tested}
 use Rattle.records.proofs.Lawful.{unused-task, unused-show, unused-not}
 
 -- two numbers are 0 where their "or" is
@@ -44,8 +45,8 @@ module _ (durations : List ℕ) (n : ℕ) where
       ]
 
   -- at the end: the test of all places is that of what is gathered
-  pub gathered-all : (used i : ℕ) → i ≡ TASKS → Gathered used i → eqb used 0 ≡ allBelow (unusedAt durations n) TASKS
-  gathered-all used i e g = elim (ℕ-discrete used 0) [
-    | yes z ↦ eq-eqb used 0 z ∙ sym (g .none z) ∙ ap (allBelow (unusedAt durations n)) e
+  pub gathered-all : (used i : ℕ) → Gathered used i → i ≤ TASKS → TASKS ≤ i → eqb used 0 ≡ allBelow (unusedAt durations n) TASKS
+  gathered-all used i g p q = elim (ℕ-discrete used 0) [
+    | yes z ↦ eq-eqb used 0 z ∙ all-tested _ i TASKS (sym (g .none z)) p q
     | no z ↦ ne-eqb used 0 z ∙ sym (g .some z)
   ]

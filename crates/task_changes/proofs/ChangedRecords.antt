@@ -8,24 +8,24 @@ use lib.IntN.{ℤ, pos, negsuc}
 use lib.Signed.{_≤ℤ_}
 use lib.ListN.{length, getD, take, set, length-append, List·getD-append}
 use lib.Seq.{length-take-le, getD-take, getD-append-seam}
-use borrow.Author.Tests.{leb-true, le-leb, ltb-true}
+use borrow.Author.Tests.{leb-true}
 use Rattle.integers.specs.Limits.{TASKS, DURATIONS}
+use Rattle.integers.specs.Answers.{refusedBy}
 use Rattle.integers.proofs.Bools.{clash}
-use Rattle.integers.proofs.Ints.{leZ-true, le-leZ}
+use Rattle.integers.proofs.Ints.{ints, up, dn, le-leZ}
 use Rattle.integers.proofs.Tests.{accepted}
 use Rattle.scheduling.specs.Scheduling.{total}
 use Rattle.scheduling.proofs.Sets.{total-ext, total-part}
 use Rattle.records.specs.declared.record.DisjunctivePropagator.{DisjunctivePropagator}
-use Rattle.records.specs.Records.{Lawful, durationOf}
-use Rattle.records.proofs.Lawful.{count-is, lawful-is}
-use Rattle.task_changes.specs.declared.changes.Changed.{Changed}
-use Rattle.task_changes.specs.declared.changes.Change.{Change}
+use Rattle.records.specs.Records.{Lawful, durationOf, recordOf}
+use Rattle.records.proofs.Lawful.{lawful-is}
+use Rattle.records.proofs.TestsInOrder.{as-facts}
 use Rattle.task_changes.specs.declared.changes.Change.the-variants.{Made, Refused}
 use Rattle.task_changes.specs.Lists.{placed, sumOf, without}
-use Rattle.task_changes.specs.Numbers.{changeNumbers}
-use Rattle.task_changes.specs.Changes.{ChangeLeft, durationsOf, added, removed, addTests, addNumber, removeTests, removeNumber, TaskAdded, TaskRemoved}
+use Rattle.task_changes.specs.Changes.{durationsOf, added, removed, addTests, addNumber, removeTests, removeNumber, TaskAdded, TaskRemoved}
 use Rattle.task_changes.proofs.PlacedLists.{placed-length, placed-front, placed-at, placed-past, front-placed, last-stored}
 use Rattle.task_changes.proofs.LeftOut.{without-length, without-all}
+use Rattle.task_changes.proofs.RefusedChanges.{more-room, less-room}
 use Rattle.task_changes.proofs.Sums.{sum-more, sum-without, sum-placed}
 
 -- A record is that of these durations: they are in its first places, beside their sum.
@@ -136,55 +136,57 @@ pub lasting : (z : ℤ) → pos 1 ≤ℤ z → 1 ≤ durationOf z
 lasting (pos n) h = leb-true 1 n (le-leZ (pos 1) (pos n) h)
 lasting (negsuc n) h = clash (le-leZ (pos 1) (negsuc n) h) refl
 
-pub not-negative : (z : ℤ) → pos 1 ≤ℤ z → pos 0 ≤ℤ z
-not-negative (pos n) h = leZ-true (pos 0) (pos n) (le-leb 0 n (omega arith))
-not-negative (negsuc n) h = clash (le-leZ (pos 1) (negsuc n) h) refl
-
 pub addable : (r : DisjunctivePropagator) (d : ℤ) → addNumber r d ≡ 0 → Addable r d
-addable r d h =
-    let (a, (b, (c, (e, _)))) = accepted (addTests r d) refl h in
-    record {
-      lawful = lawful-is r .0 a;
-      room = omega (arith, count-is (r .count + 1) .0 b .1);
-      lasts = leZ-true (pos 1) d c;
-      fits = leb-true (r .total + durationOf d) DURATIONS e;
-    }
+addable r d h = let t = accepted (addTests r d) refl h in search (as-facts, lawful-is r .0, more-room)
 
 pub removable : (r : DisjunctivePropagator) (t : ℕ) → removeNumber r t ≡ 0 → Removable r t
-removable r t h =
-    let (a, (b, (c, _))) = accepted (removeTests r t) refl h in
-    record { lawful = lawful-is r .0 a; there = ltb-true t (r .count) b; many = omega (arith, count-is (r .count - 1) .0 c .0) }
+removable r t h = let f = accepted (removeTests r t) refl h in search (as-facts, lawful-is r .0, less-room)
 
--- The contracts that the calls meet.
-left : {c : Changed} {after : DisjunctivePropagator} {x : Change} → c ≡ record { «record» = after; answer = x } → ChangeLeft (changeNumbers x) after c
-left e = record { answer = ap (λ (y : Changed). changeNumbers (y .answer)) e; stands = ap (λ (y : Changed). y .«record») e }
+-- The contracts that the calls meet: the number m that a call has answered, u being its argument as it is read from bits.
+module _ (r : DisjunctivePropagator) (d u : ℤ) {m : ℕ} (e : m ≡ addNumber r u) (same : u ≡ d) where
+  number : m ≡ addNumber r d
+  number = e ∙ ap (addNumber r) same
 
-module _ (r : DisjunctivePropagator) (d : ℤ) (c : Changed) where
-  pub add-refused : (addNumber r d ≡ 0 → ⊥) → c ≡ record { «record» = r; answer = Refused (addNumber r d) } → TaskAdded r d c
-  add-refused h e = record { refused = λ _. left e; made = λ z. absurd (h z); lawful = λ z. absurd (h z) }
+  pub add-refused : (m ≡ 0 → ⊥) → TaskAdded r d (record { «record» = r; answer = Refused m })
+  add-refused not = record { refused = λ _. record { answer = ap refusedBy number; stands = refl }; made = λ z. absurd (not (number ∙ z)); lawful = λ z. absurd (not (number ∙ z)) }
 
-  pub add-made : length (r .durations) ≡ TASKS → addNumber r d ≡ 0 → c ≡ record { «record» = added r (durationOf d); answer = Made } → TaskAdded r d c
-  add-made long h e =
-      let a = addable r d h in
+  module _ (z : m ≡ 0) where
+    pub may-add : Addable r d
+    may-add = addable r d (sym number ∙ z)
+
+    pub not-negative : pos 0 ≤ℤ u
+    unfolding up dn
+    not-negative = omega (ints, may-add .lasts, same)
+
+    -- the record as the code stores it
+    pub add-made : (more : ℕ) → pos more ≡ u → length (r .durations) ≡ TASKS
+        → TaskAdded r d (record { «record» = record { count = r .count + 1; durations = set (r .durations) (r .count) more; total = r .total + more }; answer = Made })
+    add-made more p long = record {
+      refused = λ not. absurd (not (sym number ∙ z));
+      made = λ _. record { answer = refl; stands = stored };
+      lawful = λ _. subst Lawful (sym stored) (added-lawful r (may-add .lawful) long (durationOf d) (may-add .room) (lasting d (may-add .lasts)) (may-add .fits));
+    }
+      where
+        stored : _≡_ {A = DisjunctivePropagator} (record { count = r .count + 1; durations = set (r .durations) (r .count) more; total = r .total + more }) (added r (durationOf d))
+        stored =
+            let last = last-stored (r .count) (r .durations) more long (may-add .room) (may-add .lawful .unused) in
+            let more-is = ap durationOf (p ∙ same) in
+            cc (last, more-is)
+
+module _ (r : DisjunctivePropagator) (t : ℕ) {m : ℕ} (e : m ≡ removeNumber r t) where
+  pub remove-refused : (m ≡ 0 → ⊥) → TaskRemoved r t (record { «record» = r; answer = Refused m })
+  remove-refused not = record { refused = λ _. record { answer = ap refusedBy e; stands = refl }; made = λ z. absurd (not (e ∙ z)); lawful = λ z. absurd (not (e ∙ z)) }
+
+  pub may-remove : m ≡ 0 → Removable r t
+  may-remove z = removable r t (sym e ∙ z)
+
+  pub remove-made : m ≡ 0 → length (r .durations) ≡ TASKS → (ds : List ℕ) → ds ≡ removed r t .durations
+      → TaskRemoved r t (record { «record» = record { count = r .count - 1; durations = ds; total = r .total - getD (r .durations) t 0 }; answer = Made })
+  remove-made z long ds s =
+      let a = may-remove z in
+      let stored = ap (λ (l : List ℕ). recordOf (r .count - 1) l (r .total - getD (r .durations) t 0)) s in
       record {
-        refused = λ z. absurd (z h);
-        made = λ _. left e;
-        lawful = λ _. subst (λ (x : Changed). Lawful (x .«record»)) (sym e) (added-lawful r (a .lawful) long (durationOf d) (a .room) (lasting d (a .lasts)) (a .fits));
+        refused = λ not. absurd (not (sym e ∙ z));
+        made = λ _. record { answer = refl; stands = stored };
+        lawful = λ _. subst Lawful (sym stored) (removed-lawful r (a .lawful) long t (a .there) (a .many));
       }
-
--- the record as the code stores it
-pub stored-is : (r : DisjunctivePropagator) {d : ℤ} → Addable r d → length (r .durations) ≡ TASKS → (more : ℕ) → more ≡ durationOf d
-    → _≡_ {A = Changed} (record { «record» = record { count = r .count + 1; durations = set (r .durations) (r .count) more; total = r .total + more }; answer = Made })
-    (record { «record» = added r (durationOf d); answer = Made })
-stored-is r {d} a long more e =
-    let ds = last-stored (r .count) (r .durations) more long (a .room) (a .lawful .unused) in
-    cc (ds, e)
-
-module _ (r : DisjunctivePropagator) (t : ℕ) (c : Changed) where
-  pub remove-refused : (removeNumber r t ≡ 0 → ⊥) → c ≡ record { «record» = r; answer = Refused (removeNumber r t) } → TaskRemoved r t c
-  remove-refused h e = record { refused = λ _. left e; made = λ z. absurd (h z); lawful = λ z. absurd (h z) }
-
-  pub remove-made : length (r .durations) ≡ TASKS → removeNumber r t ≡ 0 → c ≡ record { «record» = removed r t; answer = Made } → TaskRemoved r t c
-  remove-made long h e =
-      let a = removable r t h in
-      record { refused = λ z. absurd (z h); made = λ _. left e; lawful = λ _. subst (λ (x : Changed). Lawful (x .«record»)) (sym e) (removed-lawful r (a .lawful) long t (a .there) (a .many)) }

@@ -1,24 +1,23 @@
 -- Adding meets 1, 2 and 5 as creation does. For a lawful record, the number is that of creation with its durations and the new one.
 use mathlib.Core.Path.{_≡_, refl, sym, ap, _∙_}
-use mathlib.Core.Bool.{Bool, true}
+use mathlib.Core.Bool.{true}
 use mathlib.Core.Logic.{inl, inr}
 use mathlib.Core.List.{List, [], _∷_, _++_, map}
 use Prim.Native.Nat.{ℕ, _+_, _<_}
 use native.Mathlib.Omega.{arith}
 use native.Mathlib.Decide.{decLt}
-use lib.Dec.{leb}
 use lib.IntN.{ℤ, pos}
 use lib.Signed.{leZ}
 use lib.ListN.{length, getD, length-map, length-append, List·getD-map, List·getD-append}
 use lib.Seq.{getD-at}
 use borrow.Author.Tests.{le-leb}
-use Rattle.integers.specs.Limits.{TASKS, DURATIONS}
+use Rattle.integers.specs.Limits.{TASKS}
 use Rattle.integers.specs.Tests.{test, allBelow, refusal}
 use Rattle.integers.proofs.Bools.{bool}
 use Rattle.integers.proofs.Tests.{refusal-next, all-show, all-broken}
 use Rattle.scheduling.specs.Scheduling.{total}
 use Rattle.records.specs.declared.record.DisjunctivePropagator.{DisjunctivePropagator}
-use Rattle.records.specs.Records.{Lawful, lawfulRecord, countFits, durationOf, durationAt, positiveAt, creationTests}
+use Rattle.records.specs.Records.{Lawful, lawfulRecord, durationOf, durationAt, positiveAt, creationTests}
 use Rattle.records.proofs.Lawful.{lawful-is}
 use Rattle.task_changes.specs.Lists.{sumOf}
 use Rattle.task_changes.specs.Changes.{durationsOf, addNumber}
@@ -60,9 +59,4 @@ module _ (r : DisjunctivePropagator) (l : Lawful r) (long : length (r .durations
 
   pub as-creation : addNumber r d ≡ refusal (creationTests (map pos (durationsOf r) ++ (d ∷ [])))
   as-creation =
-      refusal-next (test 20 (lawfulRecord r)) _ (lawful-is r .1 l)
-      ∙ sym (
-      ap (λ (n : ℕ). refusal (test 1 (countFits n) ∷ test 2 (allBelow (positiveAt all) (length all)) ∷ test 5 (leb (total (durationAt all) (length all)) DURATIONS) ∷ [])) size
-      ∙ ap (λ (b : Bool). refusal (test 1 (countFits (r .count + 1)) ∷ test 2 b ∷ test 5 (leb (total (durationAt all) (length all)) DURATIONS) ∷ [])) one-more
-      ∙ ap (λ (s : ℕ). refusal (test 1 (countFits (r .count + 1)) ∷ test 2 (leZ (pos 1) d) ∷ test 5 (leb s DURATIONS) ∷ [])) sum-same
-      )
+      refusal-next (test 20 (lawfulRecord r)) _ (lawful-is r .1 l) ∙ sym (rw (one-more, sum-same, size) refl)

@@ -2,7 +2,7 @@
 use mathlib.Core.Path.{sym, _∙_}
 use mathlib.Core.Logic.{inl, inr}
 use native.Mathlib.Omega.{arith}
-use Rattle.busiest_stretch.proofs.TriedStretches.{stays, gives-way}
+use Rattle.busiest_stretch.proofs.TriedStretches.{start-high, stays, gives-way}
 use Rattle.busiest_stretch.proofs.stretch.better.Statement.{statement}
 use Rattle.busiest_stretch.proofs.stretch.better.Tie as tie
 
@@ -11,12 +11,6 @@ returns c = stays _ _ _ _ _ _ _ (c .before .pre .2) (λ l h. absurd (omega (arit
 
 returns-2 : tie.Need-returns-2
 returns-2 c = stays _ _ _ _ _ _ _ (c .before .before .pre .2) (λ l h. absurd (omega (arith, c .if2 .taken)))
-
-covered-requires : tie.Need-covered-requires
-covered-requires c κs =
-    let s = c .before .before in
-    let (k, q, e) = s .pre .1 .starts-last in
-    (s .pre .0, omega (arith, c .if2 .left, e, s .pre .0 .high k q))
 
 returns-3 : tie.Need-returns-3
 returns-3 c = stays _ _ _ _ _ _ _ (c .before .before .before .before .before .pre .2) (λ l h. inl (omega (arith, c .before .before .covered .ensures, c .if3 .taken)))
@@ -39,4 +33,8 @@ returns-6 c =
     (inl (omega (arith, c .before .before .if3 .left, c .if4 .left)))
 
 pub better-spec : {M : Type 1} → statement M
-better-spec = tie.close (tie.spec returns returns-2 covered-requires returns-3 returns-4 returns-5 returns-6)
+better-spec =
+    tie.close
+    (tie.spec
+    returns returns-2 (λ c κs. (let p = c .before .before .pre in (p .0, start-high _ _ (p .0) (p .1) (c .if2 .left))))
+    returns-3 returns-4 returns-5 returns-6)

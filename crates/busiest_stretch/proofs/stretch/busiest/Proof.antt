@@ -1,12 +1,10 @@
 -- The invariant `Best`: no stretch that starts or ends with one of the first k tasks is better than the best so far.
-use mathlib.Core.Path.{_≡_, sym}
+use mathlib.Core.Path.{_≡_}
 use Prim.Native.Nat.{_-_, _≤_}
 use native.Mathlib.Omega.{arith}
-use lib.ListN.{getD}
 use borrow.Author.Needs.{needs}
-use Rattle.scheduling.proofs.Sets.{total-part}
 use Rattle.fixed_schedules.specs.Neighbours.{inMoments}
-use Rattle.busiest_stretch.proofs.TriedStretches.{Best, none-yet, one-more, best-of-all}
+use Rattle.busiest_stretch.proofs.TriedStretches.{Best, end-fits, end-late, start-high, none-yet, one-more, best-of-all}
 use Rattle.busiest_stretch.proofs.stretch.busiest.Statement.{statement}
 use Rattle.busiest_stretch.proofs.stretch.busiest.Tie as tie
 
@@ -16,30 +14,9 @@ Inv-loop starts durations n w first last best₀ k₀ best k = (k ≤ n) × Best
 abbrev μ-loop : tie.MeasureT-loop
 μ-loop starts durations n w first last best₀ k₀ best k = n - k
 
-covered-requires : tie.Need-covered-requires Inv-loop μ-loop
-covered-requires c κs =
-    let (k, q, e) = c .pre .1 .starts-first in
-    (c .pre .0, omega (arith, e, c .pre .0 .high k q))
-
-loop-holds : tie.Need-loop-holds Inv-loop μ-loop
-loop-holds c =
-    let s = c .before in
-    let (k, q, e) = s .pre .1 .starts-first in (
-      omega arith,
-      none-yet _ _ _ _ _ _ (record { from = omega arith; to = omega (arith, e, s .pre .1 .greatest k q); covers = sym (c .covered .ensures) }),
-    )
-
-add-back : tie.Need-add-back Inv-loop μ-loop
-add-back c =
-    let s = c .before .before .before .before .before .before in
-    let k = c .before .before .before .before .loop .k in
-    let q = c .before .before .before .loop-test .taken in
-    record { fits = omega (arith, s .pre .0 .high k q, total-part (λ j. getD (s .args .durations .now) j 0) (s .args .n) k q, s .pre .0 .sum) }
-
-sub-back : tie.Need-sub-back Inv-loop μ-loop
-sub-back c =
-    let s = c .before .before .before .before .before .before in
-    omega (arith, s .pre .0 .low (c .before .before .before .before .loop .k) (c .before .before .before .loop-test .taken), s .pre .0 .length)
+-- the first start is not after the last
+ordered : (c : tie.Start Inv-loop μ-loop) → c .args .first ≤ c .args .last
+ordered c = let (k, q, e) = c .pre .1 .starts-first in omega (arith, e, c .pre .1 .greatest k q)
 
 loop-again : tie.Need-loop-again Inv-loop μ-loop
 loop-again c =
@@ -62,6 +39,8 @@ pub busiest-spec : {M : Type 1} → statement M
 busiest-spec =
     tie.close
     (tie.spec
-    Inv-loop μ-loop covered-requires loop-holds (λ c. search needs) (λ c. search needs) (λ c κs. search needs)
-    (λ c. search needs) (λ c. search needs) add-back sub-back (λ c κs. search needs) (λ c. search needs)
-    (λ c. search needs) loop-again returns)
+    Inv-loop μ-loop (λ c κs. (c .pre .0, start-high _ _ (c .pre .0) (c .pre .1) (ordered c)))
+    (λ c. (omega arith, none-yet _ _ _ _ _ (c .covered .ensures) (ordered (c .before))))
+    (λ c. search needs) (λ c. search needs) (λ c κs. search needs) (λ c. search needs)
+    (λ c. search needs) (λ c. search (end-fits, needs)) (λ c. search (end-late, needs))
+    (λ c κs. search needs) (λ c. search needs) (λ c. search needs) loop-again returns)

@@ -7,11 +7,10 @@ use lib.Dec.{leb}
 use lib.ListN.{length, getD}
 use borrow.Author.Tests.{le-leb, lt-leb}
 use borrow.Author.Needs.{needs}
-use mir.Syntax.{w32}
 use Rattle.integers.specs.Limits.{TASKS}
 use Rattle.integers.specs.Moments.{moment, zeroAt}
 use Rattle.integers.specs.Tests.{allBelow}
-use Rattle.integers.proofs.Ints.{back-of}
+use Rattle.integers.proofs.MomentSums.{moment-word}
 use Rattle.integers.proofs.Tests.{all-none, all-more, all-broken}
 use Rattle.fixed_schedules.specs.FixedSchedules.{startAt}
 use Rattle.fixed_schedules.specs.Neighbours.{neighboursApart}
@@ -43,9 +42,7 @@ small c =
 
 -- the moment of the first one's start
 moment-is : (c : tie.After-moment-of Inv-loop μ-loop) → let turn = c .before .before .before .before in c .moment-of .result ≡ moment zeroAt (startAt (begin turn .args .earliest .now) (task-of turn))
-moment-is c =
-    let turn = c .before .before .before .before in
-    c .moment-of .ensures ∙ ap (moment zeroAt) (back-of w32 (startAt (begin turn .args .earliest .now) (task-of turn)) (c .before .moment-of-arg .given))
+moment-is c = search (moment-word, needs)
 
 -- what the test of the two says
 seen : (c : tie.After-moment-of2 Inv-loop μ-loop) → let turn = c .before .before .before .before .before .before .before in
@@ -60,7 +57,7 @@ seen c =
     let k = next-of turn in
     let d = getD (s .args .durations .now) j 0 in
     ap (λ (m : ℕ). leb (m + d) (c .moment-of2 .result)) (moment-is (c .before .before .before))
-    ∙ ap (λ (m : ℕ). leb (moment zeroAt (startAt es j) + d) m) (c .moment-of2 .ensures ∙ ap (moment zeroAt) (back-of w32 (startAt es k) (c .before .moment-of-arg2 .given)))
+    ∙ ap (λ (m : ℕ). leb (moment zeroAt (startAt es j) + d) m) (moment-word (startAt es k) (record { sfits = c .before .moment-of-arg2 .given }) (c .moment-of2 .ensures))
     ∙ ends-by-test (startAt es j) (startAt es k) d (s .pre .sortable .starts j (small turn .0)) (s .pre .sortable .starts k (small turn .1))
 
 add-end : tie.Need-add-end Inv-loop μ-loop
@@ -93,8 +90,12 @@ pub neighbours-apart-spec : {M : Type 1} → statement M
 neighbours-apart-spec =
     tie.close
     (tie.spec
-    Inv-loop μ-loop (λ c. (omega arith, all-none _)) (λ c. search needs) (λ c. search needs) (λ c. omega (arith, small c)) (λ c. search needs)
-    (λ c. search needs) (λ c. omega (arith, small (c .before))) (λ c. omega (arith, small (c .before .before))) (λ c. small (c .before .before) .0)
-    (λ c κs. search needs) (λ c. omega (arith, small (c .before .before .before .before))) (λ c. omega (arith, small (c .before .before .before .before)))
-    add-end (λ c. omega (arith, small (c .before .before .before .before .before))) (λ c. small (c .before .before .before .before .before) .1)
-    (λ c κs. search needs) returns (λ c. search needs) (λ c. search needs) loop-again returns-2)
+    Inv-loop μ-loop (λ c. (omega arith, all-none _)) (λ c. search needs) (λ c. search needs)
+    (λ c. omega (arith, small c)) (λ c. search needs) (λ c. search needs)
+    (λ c. omega (arith, small (c .before))) (λ c. omega (arith, small (c .before .before)))
+    (λ c. small (c .before .before) .0) (λ c κs. search needs)
+    (λ c. omega (arith, small (c .before .before .before .before)))
+    (λ c. omega (arith, small (c .before .before .before .before))) add-end
+    (λ c. omega (arith, small (c .before .before .before .before .before)))
+    (λ c. small (c .before .before .before .before .before) .1) (λ c κs. search needs) returns
+    (λ c. search needs) (λ c. search needs) loop-again returns-2)

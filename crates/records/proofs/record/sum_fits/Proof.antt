@@ -7,8 +7,5 @@ use Rattle.integers.specs.Limits.{DURATIONS}
 use Rattle.records.proofs.record.sum_fits.Statement.{statement}
 use Rattle.records.proofs.record.sum_fits.Tie as tie
 
-returns : tie.Need-returns
-returns c = ap (λ (s : ℕ). leb s DURATIONS) (c .total-of .ensures)
-
 pub sum-fits-spec : {M : Type 1} → statement M
-sum-fits-spec = tie.close (tie.spec (λ c κs. search needs) (λ c. search needs) returns)
+sum-fits-spec = tie.close (tie.spec (λ c κs. search needs) (λ c. search needs) (λ c. ap (λ (s : ℕ). leb s DURATIONS) (c .total-of .ensures)))

@@ -1,11 +1,12 @@
 -- The invariant: `sum` is that of the first i durations, and each is below 2^32, so TASKS of them fit 64 bits.
-use mathlib.Core.Path.{_≡_, sym, ap, _∙_}
-use Prim.Native.Nat.{ℕ, _+_, _-_, _*_, _≤_}
+use mathlib.Core.Path.{_≡_, sym}
+use Prim.Native.Nat.{_-_, _*_, _≤_}
 use native.Mathlib.Omega.{arith}
 use lib.ListN.{getD}
 use borrow.Author.Needs.{needs}
 use Rattle.scheduling.specs.Scheduling.{total}
-use Rattle.scheduling.proofs.Sets.{total-none, total-more}
+use Rattle.scheduling.proofs.Sets.{total-none}
+use Rattle.records.proofs.OneMore.{total-step, total-end}
 use Rattle.records.proofs.record.total_of.Statement.{statement}
 use Rattle.records.proofs.record.total_of.Tie as tie
 
@@ -18,22 +19,11 @@ abbrev μ-loop : tie.MeasureT-loop
 loop-holds : tie.Need-loop-holds Inv-loop μ-loop
 loop-holds c = (omega arith, (sym (total-none _), omega arith))
 
-loop-again : tie.Need-loop-again Inv-loop μ-loop
-loop-again c =
-    let d = c .before .before .before .before .args .durations .now in
-    let loop = c .before .before .before .loop in
-    let more = total-more (λ k. getD d k 0) (loop .i) in
-    (omega arith, (ap (λ (x : ℕ). loop .sum + x) (c .wide .ensures .0) ∙ ap (λ (x : ℕ). x + getD d (loop .i) 0) (loop .inv .1 .0) ∙ sym more, omega arith))
-
-returns : tie.Need-returns Inv-loop μ-loop
-returns c =
-    let args = c .before .before .args in
-    let e : c .before .loop .i ≡ args .n = omega arith in
-    c .before .loop .inv .1 .0 ∙ ap (total (λ k. getD (args .durations .now) k 0)) e
-
 pub total-of-spec : {M : Type 1} → statement M
 total-of-spec =
     tie.close
     (tie.spec
-    Inv-loop μ-loop loop-holds (λ c. search needs) (λ c. search needs) (λ c κs. search needs) (λ c. search needs)
-    (λ c. search needs) (λ c. search needs) loop-again returns)
+    Inv-loop μ-loop loop-holds (λ c. search needs) (λ c. search needs) (λ c κs. search needs)
+    (λ c. search needs) (λ c. search needs) (λ c. search needs)
+    (λ c. (omega arith, (search (total-step, needs), omega arith)))
+    (λ c. search (total-end, needs)))
