@@ -44,14 +44,9 @@ module _ (before : DisjunctivePropagator) (ys : List Range) (r : Precedences) (e
     none-lost z s h k q = first z k q .bounds (s k) (h .permitted k q, left .holds z s (h .schedule) k q)
 
     accepted-lent : AcceptedPrecedencesLent before ys r (withStarts ys es′)
-    accepted-lent = record {
-      raised = es′;
-      left = left;
-      stored = refl;
-      first = first;
-      same-emptied = λ z. ap (withStarts ys) (left .kept z) ∙ own-starts ys;
-      none-lost = none-lost;
-    }
+    accepted-lent =
+        let same-emptied : precedencesNumbers r .kind ≡ 1 → withStarts ys es′ ≡ ys = λ z. ap (withStarts ys) (left .kept z) ∙ own-starts ys in
+        search (left, first, none-lost, same-emptied)
 
   pub lent-precedences : RanPrecedences before (earliests ys) (latests ys) (allBarsFit ys) r es′ → PrecedencesLent before ys r (withStarts ys es′)
   lent-precedences ran = record {

@@ -71,17 +71,7 @@ module _ (o : ℕ) (J : Tasks natural) (ok : Proper J) (low high d : ℕ) (early
     by : completion J k ≤ high + d
 
   task : (k : ℕ) → k < n → Task k
-  task k q =
-      let p : J .duration k ≤ d = omega (arith, all, processing-less J (λ _. true) k (record { small = q; mem = refl })) in
-      record {
-        small = q;
-        starts = early k q;
-        until = omega (arith, ok .ranges k q, late k q);
-        lasts = ok .lasts k q;
-        short = p;
-        ends = omega (arith, early k q, ok .ranges k q);
-        by = omega (arith, late k q);
-      }
+  task k q = omega (arith, q, early k q, late k q, ok .ranges k q, ok .lasts k q, all, processing-less J (λ _. true) k (record { small = q; mem = refl }))
 
   abbrev TasksOnly : List ℕ → Type 0
   TasksOnly ks = (k : ℕ) → has ks k ≡ true → k < n

@@ -22,7 +22,7 @@ use Rattle.scheduling.proofs.Scan.{scan, scan-is}
 use Rattle.scheduling.proofs.Levels.{last-fits}
 use Rattle.scheduling.proofs.Rule.{rule-sound, overload-sound}
 use Rattle.scheduling.proofs.SetSizes.{card-same, card-none}
-use Rattle.scheduling.proofs.Suffixes.{suffix, suffix-out, suffix-end}
+use Rattle.scheduling.proofs.Suffixes.{suffix, onward-out, suffix-end}
 use Rattle.trees.specs.Leaves.{grayAt}
 use Rattle.runs.specs.Traces.{Post, done, Trace}
 use Rattle.runs.specs.Runs.{State, run, earliestOrder, completionOrder, propagate}
@@ -142,7 +142,7 @@ module _ (n : ℕ) where
             lasts (L t) (by-completion J .task t small),
             by-completion J .sorted (place k) t (omega arith) small,
             ap (completion J) (by-completion J .there k q),
-            processing-less J (suffix J T rank (by-earliest J) Ω k) k (record { small = q; mem = suffix-out J T rank (by-earliest J) Ω k k (omega arith) (k-in .mem) }),
+            processing-less J (suffix J T rank (by-earliest J) Ω k) k (record { small = q; mem = onward-out J T rank (by-earliest J) Ω (rank k) k (omega arith) (k-in .mem) }),
             scan-is J T rank proper (by-earliest J) Ω (k, k-in) .bounds _ (suffix-end J T rank (by-earliest J) Ω k k-in),
             closed .none-passes (last-fits J proper (λ Ω. scan J T rank Ω (J .count)) (scan-is J T rank proper (by-earliest J)) L place (by-completion J) t (omega arith))
                 k (record { small = q; mem = y }),

@@ -114,18 +114,14 @@ module _ (o : ℕ) (Z : Tasks whole) (okz : Proper Z) (deepz : (k : ℕ) → k <
       few : many ≤ length (tr .posts)
       few = elim (is-emptied (tr .end)) [ inl e ↦ omega (arith, out .left .but-last e) | inr n ↦ omega (arith, out .left .all n) ]
 
+  not-wrong-done : (Conflict Z → ⊥) → tr .end ≡ done
+  not-wrong-done n = elim (is-done (tr .end)) [ inl z ↦ z | inr z ↦ absurd (n (wrong z)) ]
+
+  some-post : tr .end ≡ emptied → 1 ≤ length (tr .posts)
+  some-post e = omega (arith, out .left .but-last e)
+
   pub run-right : Right Z tr
-  run-right = record {
-    exactly = (not-wrong, λ n. elim (is-done (tr .end)) [ inl z ↦ z | inr z ↦ absurd (n (wrong z)) ]);
-    when-done = finished;
-    otherwise = λ h s sch. conflict-sound Z okz (wrong h) s sch;
-    posts = out .goods;
-    overloads = out .over;
-    some-post = λ e. omega (arith, out .left .but-last e);
-    above = above;
-    stands = stands;
-    stays = stays;
-  }
+  run-right = search (not-wrong, not-wrong-done, finished, wrong, conflict-sound Z okz, out .goods, out .over, some-post, above, stands, stays)
 
 -- the two orders of a run
 pub by-earliest : (J : Tasks natural) → ByEarliest J (λ j. getD (earliestOrder J) j 0) (λ k. index (earliestOrder J) k)

@@ -17,6 +17,8 @@ use Rattle.integers.proofs.Bools.{leb-step, bool, clash, below-suc}
 use Rattle.integers.proofs.Lists.{getD-map-in, length-snoc}
 use Rattle.scheduling.proofs.Sets.{_less_, less-self, with-new}
 use Rattle.scheduling.proofs.Scan.{scan, scan-is}
+use Rattle.scheduling.proofs.Correspondence.{done-carried}
+use Rattle.scheduling.proofs.Agreement.{same-sets}
 use Rattle.scheduling.proofs.Levels.{Posts, Facts, next, leave, last-fits, edge, finish, overloaded, more}
 use Rattle.scheduling.proofs.SetSizes.{card, card-zero, card-less, card-same, card-most, card-none, card-with}
 use Rattle.integers.specs.Moments.{moment, Above, instant}
@@ -40,19 +42,6 @@ map-above o [] k = zero-above o
 map-above o (x ∷ xs) zero = instant-above o x
 map-above o (x ∷ xs) (suc k) = map-above o xs k
 
--- Done looks at the starts below the count
-pub done-same : (J : Tasks natural) (now now′ : ℕ → ℕ) (m : ℕ) (task bound : ℕ → ℕ) → ((k : ℕ) → k < J .count → now′ k ≡ now k) → Done J now m task bound → Done J now′ m task bound
-done-same J now now′ m task bound z d = record {
-  no-overload = d .no-overload;
-  no-passing = d .no-passing;
-  starts = λ i q. rw (z i q) (d .starts i q);
-  small = d .small;
-  raises = d .raises;
-  at-largest = d .at-largest;
-  every = λ k q r. d .every k q (rw (z k q) at r);
-  once = d .once;
-}
-
 -- posts look at the same starts, and at the tasks and bounds below m
 posts-same : (J : Tasks natural) (now now′ : ℕ → ℕ) (m : ℕ) (task bound task′ bound′ : ℕ → ℕ) → ((k : ℕ) → k < J .count → now′ k ≡ now k)
     → ((j : ℕ) → j < m → task′ j ≡ task j) → ((j : ℕ) → j < m → bound′ j ≡ bound j) → Posts J now m task bound → Posts J now′ m task′ bound′
@@ -70,6 +59,20 @@ pub record StandsAt (J : Tasks natural) (now : ℕ → ℕ) (m made : ℕ) (task
   pub from : (k : ℕ) → k < J .count → J .earliest k ≤ now k
   pub to : (k : ℕ) → k < J .count → now k ≤ J .latest k
   pub above : (j : ℕ) → m ≤ j → j < made → J .latest (task j) < bound j
+
+-- the ends are apart
+module _ {X : Type 0} where
+  emptied-not-done : emptied ≡ done → X
+  emptied-not-done z = let y : _≡_ {A = ℕ} 0 1 = cc in absurd (omega arith)
+
+  overload-not-done : {r : List Atom} → overload r ≡ done → X
+  overload-not-done z = let y : _≡_ {A = ℕ} 0 1 = cc in absurd (omega arith)
+
+  emptied-not-overload : {r : List Atom} → emptied ≡ overload r → X
+  emptied-not-overload z = let y : _≡_ {A = ℕ} 0 1 = cc in absurd (omega arith)
+
+  overload-not-emptied : {r : List Atom} → overload r ≡ emptied → X
+  overload-not-emptied z = let y : _≡_ {A = ℕ} 0 1 = cc in absurd (omega arith)
 
 module _ (o : ℕ) (J : Tasks natural) (ok : Proper J) (estOrder lctOrder : List ℕ) (rk : ByEarliest J (λ j. getD estOrder j 0) (λ k. index estOrder k))
     (ord : ByCompletion J (λ t. getD lctOrder t 0) (λ k. index lctOrder k)) where
@@ -188,20 +191,21 @@ module _ (o : ℕ) (J : Tasks natural) (ok : Proper J) (estOrder lctOrder : List
       | inr z ↦ elim (decLt (place k) t) [ yes y ↦ omega (arith, v .facts .left k (record { small = q; mem = z }) y .raised) | no y ↦ omega (arith, v .facts .same-on k q (omega arith)) ]
     ]
 
-    -- the posts of a list that begins with those of a state, by the starts that a trace has for it
+    -- the moments of the starts that a trace has for a state
+    told : (t : ℕ) (st : State) → Inv t st → (k : ℕ) → k < n → moment o (getD (map (instant o) (st .starts)) k (pos 0)) ≡ now st k
+    told t st v k q = ap (moment o) (getD-map-in (instant o) (st .starts) k 0 (pos 0) (omega (arith, v .known))) ∙ moment-instant o (now st k)
+
+    -- the posts of a list that begins with those of a state, by these starts
     standing : (t : ℕ) (st : State) (ps : List Post) → Inv t st → ((j : ℕ) → j < length (st .posts) → getD ps j no-post ≡ getD (st .posts) j no-post)
         → ((j : ℕ) → length (st .posts) ≤ j → j < length ps → J .latest (taskOf ps j) < boundOf ps j)
         → StandsAt J (λ k. moment o (getD (map (instant o) (st .starts)) k (pos 0))) (length (st .posts)) (length ps) (taskOf ps) (boundOf ps)
     standing t st ps v olds highs = record {
-      stand = posts-same J (now st) (λ k. moment o (getD (map (instant o) (st .starts)) k (pos 0))) (length (st .posts)) (taskOf (st .posts)) (boundOf (st .posts)) (taskOf ps) (boundOf ps) at
-          (λ j q. ap (λ (p : Post). p .task) (olds j q)) (λ j q. ap (λ (p : Post). moment o (p .bound)) (olds j q)) (v .posted);
-      from = λ k q. omega (arith, at k q, from-entry t st v k q);
-      to = λ k q. omega (arith, at k q, v .facts .inside k q);
+      stand = posts-same J (now st) (λ k. moment o (getD (map (instant o) (st .starts)) k (pos 0))) (length (st .posts)) (taskOf (st .posts)) (boundOf (st .posts)) (taskOf ps) (boundOf ps)
+          (told t st v) (λ j q. ap (λ (p : Post). p .task) (olds j q)) (λ j q. ap (λ (p : Post). moment o (p .bound)) (olds j q)) (v .posted);
+      from = λ k q. omega (arith, told t st v k q, from-entry t st v k q);
+      to = λ k q. omega (arith, told t st v k q, v .facts .inside k q);
       above = highs;
     }
-      where
-        at : (k : ℕ) → k < n → moment o (getD (map (instant o) (st .starts)) k (pos 0)) ≡ now st k
-        at k q = ap (moment o) (getD-map-in (instant o) (st .starts) k 0 (pos 0) (omega (arith, v .known))) ∙ moment-instant o (now st k)
 
     -- what a trace leaves of the starts: a post that empties a range is the last one, and no other is above a latest start
     pub record StartsLeft (tr : Trace) : Type 0 where
@@ -265,18 +269,15 @@ module _ (o : ℕ) (J : Tasks natural) (ok : Proper J) (estOrder lctOrder : List
       one-less = omega (arith, card-less J (lam st) i mem, card-same J (λ k. grayAt (set (st .leaves) (rank i) empty) (rank k)) (lam st less i) (left .grays))
 
       pass-ok : exceeds (ectOf (st .leaves)) (J .earliest i) ≡ false → Inv t (edges.dropped st x)
-      pass-ok y = subst (λ (x : ℕ). Inv t (edges.dropped st x)) at-x (record {
-        size = left .size;
-        whites = left .whites;
-        known = v .known;
-        posted = v .posted;
-        good = v .good;
-        few = omega (arith, one-less, v .few);
-        counted = omega (arith, one-less, v .counted);
-        facts = leave J ok E E-is L place ord t (lam st) _ (now st) (now st) i (v .facts) mem hit
+      pass-ok y = subst (λ (x : ℕ). Inv t (edges.dropped st x)) at-x (search (
+        arith,
+        left .whites,
+        left,
+        one-less,
+        leave J ok E E-is L place ord t (lam st) _ (now st) (now st) i (v .facts) mem hit
             (omega (arith, some-within (ectOf (st .leaves)) (E (Th t)) (J .earliest i) (theta-ect t st small v) y, v .facts .same-in i mem)) (v .facts .inside i (mem .small))
-            (λ k ne. refl) (left .grays);
-      })
+            (λ k ne. refl) (left .grays),
+      ))
 
       module _ (b : ℕ) (is : ectOf (st .leaves) ≡ some b) where
         b-is : b ≡ E (Th t)
@@ -383,19 +384,11 @@ module _ (o : ℕ) (J : Tasks natural) (ok : Proper J) (estOrder lctOrder : List
           card-with J (lam st) (L t) (record { small = ord .task t small; mem = out }),
           card-same J (λ k. grayAt (set (st .leaves) (rank (L t)) gray) (rank k)) (lam st with L t) (gone .grays),
         ) in
-        record {
-          few = omega (arith, one-more, v .few);
-          counted = omega (arith, one-more, v .counted);
-          size = gone .size;
-          whites = λ k r. gone .whites k r ∙ elim (ℕ-discrete k (L t)) [
-            | yes z ↦ rw z (less-self (Th t) (L t) ∙ sym (lt-leb (suc t) (place (L t)) (omega (arith, ord .back t small))))
-            | no z ↦ rw (ne-eqb k (L t) z) (leb-step t (place k) (λ y. z (sym (ord .there k r) ∙ ap L y)))
-          ];
-          known = v .known;
-          posted = v .posted;
-          good = v .good;
-          facts = next J ok E E-is L place ord t (lam st) _ (now st) small (v .facts) (c .none-passes q) q (gone .grays);
-        }
+        let whites : (k : ℕ) → k < n → whiteAt (set (st .leaves) (rank (L t)) gray) (rank k) ≡ Th (suc t) k = λ k r. gone .whites k r ∙ elim (ℕ-discrete k (L t)) [
+          | yes z ↦ rw z (less-self (Th t) (L t) ∙ sym (lt-leb (suc t) (place (L t)) (omega (arith, ord .back t small))))
+          | no z ↦ rw (ne-eqb k (L t) z) (leb-step t (place k) (λ y. z (sym (ord .there k r) ∙ ap L y)))
+        ] in
+        search (arith, whites, gone, one-more, next J ok E E-is L place ord t (lam st) _ (now st) small (v .facts) (c .none-passes q) q (gone .grays))
 
     done-ok : (t : ℕ) (st : State) → suc t ≡ n → Closed t st → OutOk (edges.ended o J estOrder lctOrder st done)
     done-ok t st end c =
@@ -410,8 +403,8 @@ module _ (o : ℕ) (J : Tasks natural) (ok : Proper J) (estOrder lctOrder : List
           few = omega (arith, v .few);
           counted = omega (arith, v .counted);
           final = λ _. (st, subst (λ (t : ℕ). Closed t st) (omega arith) c, refl);
-          when-done = λ _. done-same J (now st) (λ k. moment o (getD (map (instant o) (st .starts)) k (pos 0))) (length (st .posts)) (taskOf (st .posts)) (boundOf (st .posts))
-              (λ k r. ap (moment o) (getD-map-in (instant o) (st .starts) k 0 (pos 0) (omega (arith, v .known))) ∙ moment-instant o (now st k))
+          when-done = λ _. done-carried (same-sets J (λ _. true) (λ _. true) (λ k q. refl)) (now st) (λ k. moment o (getD (map (instant o) (st .starts)) k (pos 0)))
+              (length (st .posts)) (taskOf (st .posts)) (boundOf (st .posts)) (boundOf (st .posts)) (λ k r. sym (told t st v k r)) (λ j q. refl)
               (finish J ok E E-is L place ord t (lam st) (now st) end (v .facts) (c .none-passes q) (length (st .posts)) (taskOf (st .posts)) (boundOf (st .posts)) (v .posted));
         }
 
@@ -419,31 +412,13 @@ module _ (o : ℕ) (J : Tasks natural) (ok : Proper J) (estOrder lctOrder : List
         → OutOk (edges.ended o J estOrder lctOrder st (overload (conflict o J (En t) (leaves.sum J estOrder (st .leaves)) (theta J estOrder (st .leaves)))))
     over-ok t st small v q =
         let wrong = overloaded J ok E E-is L place ord t small (theta-past t st small v q) in
-        record {
-          goods = v .good;
-          above = map-above o (st .starts);
-          when-done = λ z. let y : _≡_ {A = ℕ} 0 1 = cc in absurd (omega arith);
-          final = λ z. let y : _≡_ {A = ℕ} 0 1 = cc in absurd (omega arith);
-          few = omega (arith, v .few);
-          counted = omega (arith, v .counted);
-          otherwise = λ _. inl wrong;
-          over = λ r z. let y : conflict o J (En t) (leaves.sum J estOrder (st .leaves)) (theta J estOrder (st .leaves)) ≡ r = cc in
-              subst GoodEnd y (meas .of-end t (st .leaves) (lam st) (shape t st v) small q wrong);
-          left = all-stand t st (overload (conflict o J (En t) (leaves.sum J estOrder (st .leaves)) (theta J estOrder (st .leaves)))) (λ z. let y : _≡_ {A = ℕ} 0 1 = cc in absurd (omega arith)) v;
-        }
+        let r₀ = conflict o J (En t) (leaves.sum J estOrder (st .leaves)) (theta J estOrder (st .leaves)) in
+        let conflicts : Conflict J = inl wrong in
+        let over : (r : List Atom) → overload r₀ ≡ overload r → GoodEnd r = λ r z. let y : r₀ ≡ r = cc in subst GoodEnd y (meas .of-end t (st .leaves) (lam st) (shape t st v) small q wrong) in
+        search (arith, map-above o (st .starts), overload-not-done, conflicts, over, all-stand t st (overload r₀) overload-not-emptied v)
 
     empty-ok : (t : ℕ) (st : State) → t < n → Emptied t st → OutOk (edges.ended o J estOrder lctOrder st emptied)
-    empty-ok t st small w = record {
-      goods = w .goods;
-      left = w .left;
-      above = map-above o (st .starts);
-      when-done = λ z. let y : _≡_ {A = ℕ} 0 1 = cc in absurd (omega arith);
-      final = λ z. let y : _≡_ {A = ℕ} 0 1 = cc in absurd (omega arith);
-      otherwise = λ _. w .wrong;
-      over = λ r z. let y : _≡_ {A = ℕ} 0 1 = cc in absurd (omega arith);
-      few = omega (arith, w .few);
-      counted = omega (arith, w .counted);
-    }
+    empty-ok t st small w = search (arith, w, map-above o (st .starts), emptied-not-done, emptied-not-overload)
 
     -- the level after one that does not overload
     pub level-ok : (t : ℕ) (st : State) (u : Turn) → suc t < n → Closed t st → exceeds (ectOf (st .leaves)) (En t) ≡ false
@@ -475,37 +450,29 @@ module _ (o : ℕ) (J : Tasks natural) (ok : Proper J) (estOrder lctOrder : List
     none-gray : card J (lam st₀) ≡ 0
     none-gray = card-same J (lam st₀) (λ _. false) no-gray ∙ card-none J
 
+    module _ {X : Type 0} where
+      none-in : (k : ℕ) → In J (lam st₀) k → X
+      none-in k h = clash (h .mem) (no-gray k (h .small))
+
+      no-level : {j : ℕ} → j < 0 → X
+      no-level q = absurd (omega arith)
+
+      none-raised : (k : ℕ) → k < n → J .earliest k < now st₀ k → X
+      none-raised k q r = absurd (omega (arith, now₀ k q))
+
+    inside₀ : (k : ℕ) → k < n → now st₀ k ≤ J .latest k
+    inside₀ k q = omega (arith, now₀ k q, ok .ranges k q)
+
     first-facts : Fa 0 (lam st₀) (now st₀)
-    first-facts = record {
-      fits-before = λ s q. absurd (omega arith);
-      gray = λ k h. clash (h .mem) (no-gray k (h .small));
-      not-passed = λ k h. clash (h .mem) (no-gray k (h .small));
-      left = λ k h q. absurd (omega arith);
-      same-in = λ k h. now₀ k (h .small);
-      same-on = λ k q r. now₀ k q;
-      inside = λ k q. omega (arith, now₀ k q, ok .ranges k q);
-    }
+    first-facts = search (arith, none-in, no-level, now₀, inside₀)
 
     first-inv : Inv 0 st₀
-    first-inv = record {
-      size = length-replicate n white;
-      whites = λ k q. ap inTheta (leaf₀ k q) ∙ sym (le-leb 0 (place k) (omega arith));
-      known = tab-length (J .earliest) 0 n;
-      facts = first-facts;
-      good = λ j q. absurd (omega arith);
-      few = omega (arith, none-gray);
-      counted = omega (arith, none-gray);
-      posted = record {
-        small = λ j q. absurd (omega arith);
-        raises = λ j q. absurd (omega arith);
-        agrees = λ j q. absurd (omega arith);
-        every = λ k q r. absurd (omega (arith, now₀ k q));
-        once = λ i j q. absurd (omega arith);
-      };
-    }
+    first-inv =
+        let whites : (k : ℕ) → k < n → whiteAt (replicate n white) (rank k) ≡ Th 0 k = λ k q. ap inTheta (leaf₀ k q) ∙ sym (le-leb 0 (place k) (omega arith)) in
+        search (arith, length-replicate n white, whites, tab-length (J .earliest) 0 n, first-facts, no-level, none-gray, none-raised)
 
     pub first-closed : Closed 0 st₀
-    first-closed = record { inv = first-inv; none-passes = λ q k h. clash (h .mem) (no-gray k (h .small)) }
+    first-closed = record { inv = first-inv; none-passes = λ q k h. none-in k h }
 
     pub run-ok : 1 ≤ n → OutOk (run o J estOrder lctOrder)
     unfolding run

@@ -13,13 +13,14 @@ use lib.ListN.{length, getD}
 use borrow.Author.Tests.{eq-eqb, eqb-true, leb-true, le-leb, lt-leb}
 use Rattle.integers.specs.Moments.{moment}
 use Rattle.integers.specs.Orders.{index, has}
-use Rattle.integers.proofs.Bools.{bool, clash, or-true, or-right, and-yes, and-right}
+use Rattle.integers.proofs.Bools.{bool, clash, or-true, or-right}
 use Rattle.integers.proofs.MomentSums.{moment-instant}
-use Rattle.scheduling.specs.Scheduling.{natural, Tasks, Proper, TaskSet, In, Est, Ect, EstPlusP, Overloads, completion, processing, Atom}
+use Rattle.scheduling.specs.Scheduling.{natural, Tasks, Proper, TaskSet, In, Subset, Est, Ect, EstPlusP, Overloads, completion, processing, Atom}
 use Rattle.scheduling.specs.Moments.{ByEarliest, ByCompletion}
+use Rattle.scheduling.proofs.Suffixes as suffixes
 use Rattle.scheduling.proofs.Sets.{_less_, less-in, less-out}
 use Rattle.scheduling.proofs.Processing.{processing-less, processing-same}
-use Rattle.scheduling.proofs.Suffixes.{suffix-end}
+use Rattle.scheduling.proofs.LargerSets.{part-mono}
 use Rattle.trees.specs.Ects.{exceeds}
 use Rattle.trees.specs.Leaves.{Leaf, theta, whiteAt, taskAt}
 use Rattle.trees.specs.Leaves as leaves
@@ -28,7 +29,7 @@ use Rattle.trees.proofs.RootAnswers as tree
 use Rattle.runs.specs.Traces.{Post, overload}
 use Rattle.runs.specs.Demand.{post}
 use Rattle.runs.specs.ReasonSets.{named}
-use Rattle.runs.specs.Runs.{atLeast, within, bounds, propagation, run, earliestOrder, completionOrder}
+use Rattle.runs.specs.Runs.{atLeast, bounds, propagation, run, earliestOrder, completionOrder}
 use Rattle.runs.proofs.Demand.{by-earliest, by-completion}
 use Rattle.runs.proofs.LevelSteps.{Measure, run-ok}
 use Rattle.runs.proofs.ReasonWalks as walks
@@ -119,10 +120,12 @@ module _ (o : ℕ) (J : Tasks natural) (ok : Proper J) (estOrder lctOrder : List
         ap (λ (l : List Atom). named l k) (one .is) ∙ named-append (bounds o J b r (r + p + J .duration i - 1) p whites) (atLeast o J i r ∷ []) k
         ∙ ap (λ (l : List Atom). named l k || (eqb i k || false)) (w .is) ∙ ap (λ (y : Bool). y || (eqb i k || false)) (walks.between-names o J _ _ whites k)
 
-    white-is : (k : ℕ) → has whites k ≡ true → (k < n) × (Θ k ≡ true) × (m ≤ rank k)
-    white-is k h =
-        let w = walks.listed-in o J ok estOrder lctOrder rk ls Θ Λ s m (one .left) (one .all) k h in
-        let (q, y) = walks.onward-in o J ok estOrder lctOrder rk ls Θ Λ s m k (w .mem) in (w .small, y, q)
+    -- the white tasks from m on
+    abbrev Ω : TaskSet
+    Ω = suffixes.onward J T rank rk Θ m
+
+    listed : (k : ℕ) → has whites k ≡ true → In J Ω k
+    listed = walks.listed-in o J ok estOrder lctOrder rk ls Θ Λ s m (one .left) (one .all)
 
     self : S i ≡ true
     self = names i ∙ ap (λ (y : Bool). has whites i || (y || false)) (eq-eqb i i refl) ∙ or-right (has whites i) (true || false) refl
@@ -134,53 +137,44 @@ module _ (o : ℕ) (J : Tasks natural) (ok : Proper J) (estOrder lctOrder : List
     ]
 
     all-small : (k : ℕ) → S k ≡ true → k < n
-    all-small k h = elim (cases k h) [ inl y ↦ white-is k y .0 | inr z ↦ subst (λ (k : ℕ). k < n) z i-small ]
+    all-small k h = elim (cases k h) [ inl y ↦ listed k y .small | inr z ↦ subst (λ (k : ℕ). k < n) z i-small ]
 
-    -- without i they are the white tasks from m on
-    ω-in : (k : ℕ) → ω k ≡ true → (k < n) × (Θ k ≡ true) × (m ≤ rank k)
-    ω-in k h = let l = less-in S i k h in elim (cases k (l .0)) [ inl y ↦ white-is k y | inr z ↦ absurd (l .1 (sym z)) ]
-
-    ω-out : (k : ℕ) → k < n → Θ k ≡ true → m ≤ rank k → ω k ≡ true
-    ω-out k q y h =
-        let white : has whites k ≡ true
-        = walks.listed-out o J ok estOrder lctOrder rk ls Θ Λ s m (one .left) (one .all) k (record { small = q; mem = walks.onward-out o J ok estOrder lctOrder rk ls Θ Λ s m k h y }) in
-        less-out S i k (names k ∙ ap (λ (w : Bool). w || (eqb i k || false)) white) (λ z. clash (rw z at y) (lt-leb t (index lctOrder i) late))
-
-    onward-ω : (a k : ℕ) → m ≤ a → k < n → leb a (rank k) && ω k ≡ leb a (rank k) && Θ k
-    onward-ω a k h q = elim (bool (leb a (rank k))) [
-      | inr e ↦ rw e
-      | inl e ↦ rw e (elim (bool (ω k)) [
-        | inl w ↦ w ∙ sym (ω-in k w .1)
-        | inr w ↦ elim (bool (Θ k)) [ inl y ↦ clash (ω-out k q y (omega (arith, leb-true a (rank k) e))) w | inr y ↦ w ∙ sym y ]
+    -- are those that the reason names without i
+    ω-is : (k : ℕ) → k < n → ω k ≡ Ω k
+    ω-is k q = elim (bool (ω k)) [
+      | inl y ↦ (let l = less-in S i k y in y ∙ sym (elim (cases k (l .0)) [ inl w ↦ listed k w .mem | inr z ↦ absurd (l .1 (sym z)) ]))
+      | inr y ↦ y ∙ sym (elim (bool (Ω k)) [
+        | inl w ↦ clash (less-out S i k
+            (names k ∙ ap (λ (b : Bool). b || (eqb i k || false)) (walks.listed-out o J ok estOrder lctOrder rk ls Θ Λ s m (one .left) (one .all) k (record { small = q; mem = w })))
+            (λ z. clash (rw z at w) (suffixes.onward-not J T rank rk Θ m i (lt-leb t (index lctOrder i) late)))) y
+        | inr w ↦ w
       ])
     ]
 
-    sum-from : (a : ℕ) → m ≤ a → processing J (λ k. leb a (rank k) && ω k) ≡ processing J (λ k. leb a (rank k) && Θ k)
-    sum-from a h = processing-same J (λ k. leb a (rank k) && ω k) (λ k. leb a (rank k) && Θ k) (λ k q. onward-ω a k h q)
+    sub : Subset J ω Θ
+    sub k h = suffixes.onward-in J T rank rk Θ m k (sym (ω-is k (h .small)) ∙ h .mem) .1
 
-    sum-ω : processing J ω ≡ processing J (λ k. leb m (rank k) && Θ k)
-    sum-ω = processing-same J ω (λ k. leb m (rank k) && ω k) (λ k q. elim (bool (ω k)) [
-      | inl y ↦ y ∙ sym (and-yes (leb m (rank k)) (ω k) (le-leb m (rank k) (ω-in k y .2)) y)
-      | inr y ↦ y ∙ sym (and-right (leb m (rank k)) (ω k) y)
-    ]) ∙ sum-from m (omega arith)
+    sum-from : (a : ℕ) → m ≤ a → processing J (λ k. leb a (rank k) && ω k) ≡ processing J (λ k. leb a (rank k) && Θ k)
+    sum-from a h = processing-same J (λ k. leb a (rank k) && ω k) (λ k. leb a (rank k) && Θ k) (λ k q. ap (λ (b : Bool). leb a (rank k) && b) (ω-is k q) ∙ elim (bool (leb a (rank k))) [
+      | inl e ↦ rw (e, le-leb m (rank k) (omega (arith, leb-true a (rank k) e)))
+      | inr e ↦ rw e
+    ])
 
     -- the tasks of S start at min(est i, est of the task at m) or later
     low : (k : ℕ) → In J S k → min (J .earliest i) (J .earliest (T m)) ≤ J .earliest k
     low k h = elim (cases k (h .mem)) [
-      | inl y ↦ (let (q, _, r) = white-is k y in omega (arith, ap (J .earliest) (rk .there k q), rk .sorted m (rank k) r (rk .placed k q)))
+      | inl y ↦ (let w = listed k y in omega (arith, suffixes.after J T rank rk Θ m k (w .small) (suffixes.onward-in J T rank rk Θ m k (w .mem) .0)))
       | inr z ↦ omega (arith, ap (J .earliest) z)
     ]
 
     passes : (v : ℕ) → Est J S v → c < v + processing J S
     passes v e =
         let (k, km, z) = e .holds in
-        omega (arith, one .over, low k km, z, processing-less J S i (record { small = i-small; mem = self }), sum-ω)
+        omega (arith, one .over, low k km, z, processing-less J S i (record { small = i-small; mem = self }), processing-same J ω Ω ω-is)
 
     at-two : In J ω (T (two .at))
-    at-two = record {
-      small = rk .task (two .at) (two .inside);
-      mem = ω-out (T (two .at)) (rk .task (two .at) (two .inside)) (two .white) (omega (arith, two .after, rk .back (two .at) (two .inside)));
-    }
+    at-two = let small = rk .task (two .at) (two .inside) in
+        record { small = small; mem = ω-is _ small ∙ suffixes.onward-out J T rank rk Θ m _ (omega (arith, two .after, rk .back (two .at) (two .inside))) (two .white) }
 
     attains : J .earliest (T (two .at)) + processing J (λ k. leb (two .at) (rank k) && ω k) ≡ b
     attains = omega (arith, two .attains, sum-from (two .at) (two .after))
@@ -188,9 +182,8 @@ module _ (o : ℕ) (J : Tasks natural) (ok : Proper J) (estOrder lctOrder : List
     ect-ω : Ect J ω b
     ect-ω = record {
       holds = subst (EstPlusP J ω) attains (subst (λ (a : ℕ). EstPlusP J ω (J .earliest (T (two .at)) + processing J (λ k. leb a (rank k) && ω k))) (rk .back (two .at) (two .inside))
-          (suffix-end J T rank rk ω (T (two .at)) at-two));
-      bounds = λ w g. stops.ect-is o J ok estOrder lctOrder rk ord t ls Λ s small b is .bounds w
-          (record { part = g .part; within = λ k h. ω-in k (g .within k h) .1; start = g .start; est = g .est; sum = g .sum });
+          (suffixes.suffix-end J T rank rk ω (T (two .at)) at-two));
+      bounds = λ w g. stops.ect-is o J ok estOrder lctOrder rk ord t ls Λ s small b is .bounds w (part-mono J ω Θ w sub g);
     }
 
     sets-right : SetsRight o J estOrder (record { task = i; bound = subℕ b o; reason = reason })
@@ -198,7 +191,7 @@ module _ (o : ℕ) (J : Tasks natural) (ok : Proper J) (estOrder lctOrder : List
       task = record { small = i-small; mem = self };
       small = all-small;
       end = c;
-      ends = λ k h. stops.ends o J ok estOrder lctOrder rk ord t ls Λ s small k (record { small = h .small; mem = ω-in k (h .mem) .1 });
+      ends = λ k h. stops.ends o J ok estOrder lctOrder rk ord t ls Λ s small k (record { small = h .small; mem = sub k h });
       over = passes;
       place = two .at;
       inside = two .inside;

@@ -10,12 +10,12 @@ use lib.Dec.{eqb, leb, ltb}
 use lib.IntN.{ℤ, subℕ}
 use lib.Signed.{_≤ℤ_}
 use lib.ListN.{getD}
-use borrow.Author.Tests.{ne-eqb, eq-eqb, leb-true, le-leb, lt-leb, lt-ltb, le-ltb}
+use borrow.Author.Tests.{ne-eqb, eq-eqb, le-leb, lt-ltb, le-ltb}
 use Rattle.scheduling.specs.Scheduling.{natural, Tasks, Proper, TaskSet, In, processing}
-use Rattle.integers.proofs.Bools.{leb-step, bool, clash, and-true}
+use Rattle.integers.proofs.Bools.{bool, clash}
 use Rattle.integers.proofs.Permutations.{has-nil, has-here, has-later, has-cases}
-use Rattle.scheduling.proofs.Sets.{_less_}
-use Rattle.scheduling.proofs.Processing.{processing-same, processing-less, processing-empty}
+use Rattle.scheduling.proofs.Suffixes as suffixes
+use Rattle.scheduling.proofs.Processing.{processing-same, processing-empty}
 use Rattle.scheduling.specs.Moments.{ByEarliest}
 use Rattle.integers.specs.Orders.{index, has}
 use Rattle.scheduling.specs.Scheduling.{Atom}
@@ -104,41 +104,15 @@ module _ (o : ℕ) (J : Tasks natural) (ok : Proper J) (estOrder lctOrder : List
   abbrev pub dr : ℕ → ℕ
   dr a = processing J (onward a)
 
-  pub onward-in : (a k : ℕ) → onward a k ≡ true → (a ≤ rank k) × (Θ k ≡ true)
-  onward-in a k h = let (y, q) = and-true (leb a (rank k)) (Θ k) h in (leb-true a (rank k) y, q)
-
-  pub onward-out : (a k : ℕ) → a ≤ rank k → Θ k ≡ true → onward a k ≡ true
-  onward-out a k h q = rw (le-leb _ _ h) q
-
-  pub onward-not : (a k : ℕ) → Θ k ≡ false → onward a k ≡ false
-  onward-not a k h = elim (bool (onward a k)) [ inl y ↦ clash ((onward-in a k y) .1) h | inr y ↦ y ]
-
-  pub onward-early : (a k : ℕ) → rank k < a → onward a k ≡ false
-  onward-early a k h = rw (lt-leb a (rank k) h)
-
-  -- two tasks of one place
-  pub placed : (a k : ℕ) → k < n → rank k ≡ a → k ≡ T a
-  placed a k q z = sym (rk .there k q) ∙ ap T z
-
+  -- one place more, at a task outside Θ and at one of Θ
   pub skip : (a : ℕ) → a < n → Θ (T a) ≡ false → dr a ≡ dr (suc a)
-  skip a q y = processing-same J (onward a) (onward (suc a)) (λ k r. elim (ℕ-discrete (rank k) a) [
-    | yes z ↦ onward-not a k (ap Θ (placed a k r z) ∙ y) ∙ sym (onward-not (suc a) k (ap Θ (placed a k r z) ∙ y))
-    | no z ↦ ap (λ (b : Bool). b && Θ k) (leb-step a (rank k) z)
-  ])
+  skip = suffixes.sum-skip J T rank rk Θ
 
   pub step : (a : ℕ) → a < n → Θ (T a) ≡ true → dr a ≡ dr (suc a) + J .duration (T a)
-  step a q y =
-      let m : In J (onward a) (T a) = record { small = rk .task a q; mem = onward-out a (T a) (omega (arith, rk .back a q)) y } in
-      omega (arith, processing-less J (onward a) (T a) m, processing-same J (onward a less T a) (onward (suc a)) rest)
-    where
-      rest : (k : ℕ) → k < n → (onward a less T a) k ≡ onward (suc a) k
-      rest k r = elim (ℕ-discrete k (T a)) [
-        | yes z ↦ rw (z, eq-eqb (T a) (T a) refl) (sym (onward-early (suc a) (T a) (omega (arith, rk .back a q))))
-        | no z ↦ rw (ne-eqb k (T a) z) (ap (λ (b : Bool). b && Θ k) (leb-step a (rank k) (λ w. z (placed a k r w))))
-      ]
+  step = suffixes.sum-less J T rank rk Θ
 
   pub none-left : dr n ≡ 0
-  none-left = processing-empty J (onward n) (λ k q. onward-early n k (rk .placed k q))
+  none-left = processing-empty J (onward n) (λ k q. suffixes.onward-early J T rank rk Θ n k (rk .placed k q))
 
   -- `sum_of_processing_times`
   pub sum-is : leaves.sum J estOrder ls ≡ dr 0
@@ -160,11 +134,11 @@ module _ (o : ℕ) (J : Tasks natural) (ok : Proper J) (estOrder lctOrder : List
     listed-in k h =
         let (j, lo, hi, y, z) = theta-from (whiteAt ls) (taskAt J estOrder) a d k h in
         let q : j < n = omega arith in
-        subst (In J (onward a)) z (record { small = rk .task j q; mem = onward-out a (T j) (omega (arith, rk .back j q)) (sym (white-at j q) ∙ y) })
+        subst (In J (onward a)) z (record { small = rk .task j q; mem = suffixes.onward-out J T rank rk Θ a (T j) (omega (arith, rk .back j q)) (sym (white-at j q) ∙ y) })
 
     pub listed-out : (k : ℕ) → In J (onward a) k → has (th a d) k ≡ true
     listed-out k h =
-        let (q, y) = onward-in a k (h .mem) in
+        let (q, y) = suffixes.onward-in J T rank rk Θ a k (h .mem) in
         let r : rank k < n = rk .placed k (h .small) in
         theta-in (whiteAt ls) (taskAt J estOrder) a d (rank k) k q (omega arith) (s .whites k (h .small) ∙ y) (rk .there k (h .small))
 
@@ -172,7 +146,8 @@ module _ (o : ℕ) (J : Tasks natural) (ok : Proper J) (estOrder lctOrder : List
     listed-says lo hi k z = let e = between-says o J lo hi (th a d) k z in (λ u h. e .0 u (listed-out k h), λ f. e .1 (λ h. f (listed-in k h)))
 
     left-over : (x : ℕ) → a ≤ x → x < n → Θ (T x) ≡ true → th a d ≡ [] → ⊥
-    left-over x q r y e = clash (listed-out (T x) (record { small = rk .task x r; mem = onward-out a (T x) (omega (arith, rk .back x r)) y })) (ap (λ (l : List ℕ). has l (T x)) e ∙ has-nil (T x))
+    left-over x q r y e = clash (listed-out (T x) (record { small = rk .task x r; mem = suffixes.onward-out J T rank rk Θ a (T x) (omega (arith, rk .back x r)) y }))
+        (ap (λ (l : List ℕ). has l (T x)) e ∙ has-nil (T x))
 
   -- where a walk stops: at the first white leaf from a on that it hits; and what it leaves from there on --------------------------
   pub record Stops (Hit Miss : ℕ → Type 0) (Leaves : ℕ → ℕ → Type 0) (a : ℕ) : Type 0 where
@@ -214,7 +189,8 @@ module _ (o : ℕ) (J : Tasks natural) (ok : Proper J) (estOrder lctOrder : List
         next (inr u) = elim (ℕ-discrete a x) [ yes w ↦ absurd (clear x over (subst Miss w u)) | no w ↦ omega arith ]
 
         by : (suc a ≤ x → Stops Hit Miss (Leaves (suc a) d) (suc a)) → (Θ (T a) ≡ true) ⊎ (Θ (T a) ≡ false) → Hit a ⊎ Miss a → Stops Hit Miss (Leaves a (suc d)) a
-        by ih (inr v) u = let f = ih (next (inl v)) in earlier a d (λ t. clash t v) f (pass a d (f .m) (f .left) (th-out a d (omega arith) v) (skip a (omega arith) v) (f .is))
+        by ih (inr v) u = let f = ih (next (inl v)) in
+            earlier a d (λ t. clash t v) f (pass a d (f .m) (f .left) (th-out a d (omega arith) v) (skip a (omega arith) v) (f .is))
         by ih (inl v) (inl u) = record { m = a; left = suc d; all = z; from = omega arith; small = omega arith; mem = v; over = u; before = λ j q r y. absurd (omega arith); is = hit a d z v u }
         by ih (inl v) (inr u) = let f = ih (next (inr u)) in
             earlier a d (λ _. u) f (miss a d (f .m) (f .left) z (omega (arith, f .from)) v u (left-over (suc a) d (omega arith) x (next (inr u)) r y) (f .is))
@@ -231,7 +207,8 @@ module _ (o : ℕ) (J : Tasks natural) (ok : Proper J) (estOrder lctOrder : List
         (stops (λ m. c < reach m) (λ m. reach m ≤ c) (λ a. elim (decLt c (reach a)) [ yes u ↦ inl u | no u ↦ inr (omega arith) ]) (λ a p q. omega arith)
         (λ a d m left. walk (dr a) (th a d) ≡ F m (th m left))
         (λ a d z v u. rw (th-in a d (omega arith) v) (hit a (th (suc a) d) u))
-        (λ a d m left z r v u ne g. rw (th-in a d (omega arith) v) (miss a (th (suc a) d) u ne ∙ ap (λ (p : ℕ). walk p (th (suc a) d)) (omega (arith, step a (omega arith) v)) ∙ g))
+        (λ a d m left z r v u ne g. rw (th-in a d (omega arith) v) (miss a (th (suc a) d) u ne
+        ∙ ap (λ (p : ℕ). walk p (th (suc a) d)) (omega (arith, step a (omega arith) v)) ∙ g))
         (λ a d m left e f g. rw (e, f) g) n 0 x (omega arith) (omega arith) small mem over)
 
   -- the walk of an overload's reason
@@ -282,7 +259,7 @@ module _ (o : ℕ) (J : Tasks natural) (ok : Proper J) (estOrder lctOrder : List
 
     passed : (a d m left : ℕ) → a + suc d ≡ n → a < m → Θ (T a) ≡ true → (ea a + dr a ≡ b → ⊥) → (th (suc a) d ≡ [] → ⊥) → Bounds (suc a) d m left → Bounds a (suc d) m left
     passed a d m left z q v ne some g =
-        let early : onward m (T a) ≡ false = onward-early m (T a) (omega (arith, rk .back a (omega arith))) in
+        let early : onward m (T a) ≡ false = suffixes.onward-early J T rank rk Θ m (T a) (omega (arith, rk .back a (omega arith))) in
         let rest : dr a - J .duration (T a) ≡ dr (suc a) = omega (arith, step a (omega arith) v) in
         rw (th-in a d (omega arith) v, bounds-miss o J b r last (dr a) (T a) (th (suc a) d) (ne-eqb b (ea a + dr a) (λ e. ne (sym e))), between-more o J (low m) high (T a) (th (suc a) d), early, rest)
         (ap (λ (l : List Atom). edges.atLeast o J (T a) r ∷ edges.atMost o J (T a) (high (T a)) ∷ l) g)

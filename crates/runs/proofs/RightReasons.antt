@@ -1,5 +1,5 @@
 -- Every post of a run and every overload's reason is right: the bound is an edge-finding bound, and the reason holds at entry and passes the formula.
-use mathlib.Core.Path.{_≡_, refl, sym, ap, subst, _∙_}
+use mathlib.Core.Path.{_≡_, refl, sym, subst}
 use mathlib.Core.Bool.{true, false}
 use mathlib.Core.Logic.{inl, inr, _↔_}
 use mathlib.Core.List.{List, [], _∷_, _++_}
@@ -18,12 +18,12 @@ use Rattle.scheduling.proofs.Sets.{with-in, with-new, with-old}
 use Rattle.scheduling.proofs.Processing.{processing-mono}
 use Rattle.scheduling.proofs.Reasons as why
 use Rattle.integers.specs.Moments.{Above}
-use Rattle.integers.proofs.MomentSums.{reflect, reflect<, above-up, same, moment-instant, instant-above}
+use Rattle.integers.proofs.MomentSums.{reflect, reflect<, above-up, moment-instant, instant-above}
 use Rattle.integers.proofs.Ints.{up, dn, ints, sumℤ, sub-law}
-use Rattle.scheduling.proofs.Clocks.{sound, edge←, Is}
+use Rattle.scheduling.proofs.Suffixes as suffixes
+use Rattle.scheduling.proofs.Clocks.{sound, edge-instant, instants, checks-down, overloads-down}
 use Rattle.scheduling.specs.Moments.{moments, ByEarliest, ByCompletion}
 use Rattle.scheduling.proofs.Schedules.{rule-sound}
-use Rattle.scheduling.proofs.Checks.{checks-down, overloads-down}
 use Rattle.integers.specs.Orders.{index}
 use Rattle.scheduling.specs.Scheduling.{Atom}
 use Rattle.trees.specs.Leaves.{Leaf, theta, whiteAt, taskAt}
@@ -90,23 +90,20 @@ module _ (o : ℕ) (Z : Tasks whole) (okz : Proper Z) (deepz : (k : ℕ) → k <
   -- Atoms that keep the tasks of X in the ranges lo to hi, and say nothing of other tasks, leave just these ranges.
   module _ (atoms : List Atom) (X : TaskSet) (lo hi : ℕ → ℕ) (fits : (k : ℕ) → In J X k → lo k ≤ hi k)
       (says : (k : ℕ) (z : ℤ) → Admits atoms k z ↔ (In J X k → (at (lo k) ≤ℤ z) × (z ≤ℤ at (hi k)))) where
-    abbrev B : Tasks whole
-    B = record { count = n; earliest = λ k. at (lo k); latest = λ k. at (hi k); duration = Z .duration }
-
-    in-range : (k : ℕ) → In B X k → at (lo k) ≤ℤ at (hi k)
+    in-range : (k : ℕ) → In Z X k → at (lo k) ≤ℤ at (hi k)
     in-range k h = at-le o (lo k) (hi k) (fits k (record { small = h .small; mem = h .mem }))
 
-    bounded : Bounded Z atoms X B
+    bounded : Bounded Z atoms X (instants o (record { count = n; earliest = lo; latest = hi; duration = Z .duration }))
     unfolding up dn
     bounded = record {
       same-count = refl;
       same-duration = λ k. refl;
       least = λ k h. record {
-        holds = says k (at (lo k)) .1 (λ _. (≤ℤ-refl (at (lo k)), in-range k (record { small = h .small; mem = h .mem })));
+        holds = says k (at (lo k)) .1 (λ _. (≤ℤ-refl (at (lo k)), in-range k h));
         bounds = λ w a. says k w .0 a (record { small = h .small; mem = h .mem }) .0;
       };
       greatest = λ k h. record {
-        holds = says k (at (hi k)) .1 (λ _. (in-range k (record { small = h .small; mem = h .mem }), ≤ℤ-refl (at (hi k))));
+        holds = says k (at (hi k)) .1 (λ _. (in-range k h, ≤ℤ-refl (at (hi k))));
         bounds = λ w a. says k w .0 a (record { small = h .small; mem = h .mem }) .1;
       };
       -- no greatest value where nothing is said
@@ -128,22 +125,6 @@ module _ (o : ℕ) (Z : Tasks whole) (okz : Proper Z) (deepz : (k : ℕ) → k <
       abbrev dr : ℕ → ℕ
       dr = walks.dr o J ok estOrder lctOrder rk ls Θ Λ s
 
-      on-in : (a k : ℕ) → onward a k ≡ true → (a ≤ rank k) × (Θ k ≡ true)
-      on-in = walks.onward-in o J ok estOrder lctOrder rk ls Θ Λ s
-
-      on-out : (a k : ℕ) → a ≤ rank k → Θ k ≡ true → onward a k ≡ true
-      on-out = walks.onward-out o J ok estOrder lctOrder rk ls Θ Λ s
-
-      -- in the order of earliest starts
-      after : (a k : ℕ) → k < n → a ≤ rank k → ea a ≤ J .earliest k
-      after a k q h = omega (arith, ap (J .earliest) (rk .there k q), rk .sorted a (rank k) h (rk .placed k q))
-
-      onward-est : (a : ℕ) → a < n → Θ (T a) ≡ true → Est J (onward a) (ea a)
-      onward-est a q y = record {
-        holds = (T a, record { small = rk .task a q; mem = on-out a (T a) (omega (arith, rk .back a q)) y }, refl);
-        bounds = λ w h. omega (arith, h .2, after a (h .0) (h .1 .small) ((on-in a (h .0) (h .1 .mem)) .0));
-      }
-
       -- a post -----------------------------------------------------------------------------------------------------------------
       module _ (x : ℕ) (f : tree.Found J ok estOrder rk ls Θ Λ s x) (late : place (T x) < t) (over : exceeds (leaves.ect-bar J estOrder ls) c ≡ true) (b : ℕ) (is : leaves.ect J estOrder ls ≡ some b)
           (up : J .earliest (T x) < b) (edge : EdgeFindingBound J (T x) b) where
@@ -160,8 +141,7 @@ module _ (o : ℕ) (Z : Tasks whole) (okz : Proper Z) (deepz : (k : ℕ) → k <
         i-out = lt-leb t (place i) late
 
         edge-ℤ : EdgeFindingBound Z i (at b)
-        edge-ℤ = let e : Is o Z okz deepz (EdgeFindingBound Z i) b = edge← o Z okz deepz i b edge in
-            subst (EdgeFindingBound Z i) (same o (e .at) (at b) (e .above) (instant-above o b) (e .is ∙ sym (moment-instant o b))) (e .holds)
+        edge-ℤ = edge-instant o Z okz deepz i b edge
 
         -- the first walk
         abbrev one : walks.First o J ok estOrder lctOrder rk ls Θ Λ s i c b As
@@ -196,25 +176,25 @@ module _ (o : ℕ) (Z : Tasks whole) (okz : Proper Z) (deepz : (k : ℕ) → k <
         Ω′ = onward m′
 
         out : Outside J Ω i
-        out = record { small = i-small; mem = walks.onward-not o J ok estOrder lctOrder rk ls Θ Λ s m i i-out }
+        out = record { small = i-small; mem = suffixes.onward-not J T rank rk Θ m i i-out }
 
         sub : Subset J Ω′ Ω
-        sub k h = let u = on-in m′ k (h .mem) in on-out m k (omega (arith, two .from, u .0)) (u .1)
+        sub k h = let u = suffixes.onward-in J T rank rk Θ m′ k (h .mem) in suffixes.onward-out J T rank rk Θ m k (omega (arith, two .from, u .0)) (u .1)
 
         low : (k : ℕ) → In J Ω k → r ≤ J .earliest k
-        low k h = omega (arith, after m k (h .small) ((on-in m k (h .mem)) .0))
+        low k h = omega (arith, suffixes.after J T rank rk Θ m k (h .small) ((suffixes.onward-in J T rank rk Θ m k (h .mem)) .0))
 
         low-i : r ≤ J .earliest i
         low-i = omega arith
 
         by-c : (k : ℕ) → In J Ω k → completion J k ≤ c
-        by-c k h = stops.ends o J ok estOrder lctOrder rk ord t ls Λ s small k (record { small = h .small; mem = (on-in m k (h .mem)) .1 })
+        by-c k h = stops.ends o J ok estOrder lctOrder rk ord t ls Λ s small k (record { small = h .small; mem = (suffixes.onward-in J T rank rk Θ m k (h .mem)) .1 })
 
         past : c < r + (dr m + J .duration i)
         past = omega (arith, one .over)
 
         est′ : Est J Ω′ (ea m′)
-        est′ = onward-est m′ (two .small) (two .mem)
+        est′ = suffixes.onward-est J T rank rk Θ m′ (two .small) (two .mem)
 
         abbrev G : Tasks natural
         G = why.Given J ok Ω Ω′ i r (ea m′) b c out sub est′ (two .over) low low-i by-c past
@@ -235,7 +215,7 @@ module _ (o : ℕ) (Z : Tasks whole) (okz : Proper Z) (deepz : (k : ℕ) → k <
         G-high = why.holds-high J ok Ω Ω′ i r (ea m′) b c out sub est′ (two .over) low low-i by-c past
 
         G-i : G .earliest i ≡ r
-        G-i = rw (walks.onward-not o J ok estOrder lctOrder rk ls Θ Λ s m′ i i-out)
+        G-i = rw (suffixes.onward-not J T rank rk Θ m′ i i-out)
 
         G-i′ : G .latest i ≡ b - 1
         G-i′ = rw (eq-eqb i i refl)
@@ -273,12 +253,10 @@ module _ (o : ℕ) (Z : Tasks whole) (okz : Proper Z) (deepz : (k : ℕ) → k <
 
         passes : PassesWith Z (Pre ++ Mine) (consequentOf (record { task = i; bound = at b; reason = As }))
         passes = record {
-          ranges = B Full (Ω with i) (G .earliest) (G .latest) range says;
+          ranges = instants o G;
           set = Ω;
           bounded = bounded Full (Ω with i) (G .earliest) (G .latest) range says;
-          formula = checks-down o (B Full (Ω with i) (G .earliest) (G .latest) range says) (okz .lasts) (Ω with i) (G .earliest) (G .latest) (λ k h. instant-above o (G .earliest k))
-              (in-range Full (Ω with i) (G .earliest) (G .latest) range says) (λ k h. moment-instant o (G .earliest k)) (λ k h. moment-instant o (G .latest k))
-              Ω (λ k h. with-old Ω i k (h .mem)) i (with-new Ω i) (why.passes J ok Ω Ω′ i r (ea m′) b c out sub est′ (two .over) low low-i by-c past);
+          formula = checks-down o G Ω i (why.passes J ok Ω Ω′ i r (ea m′) b c out sub est′ (two .over) low low-i by-c past);
         }
 
         at-entry : HoldsAtEntry Z (Pre ++ Mine)
@@ -323,13 +301,13 @@ module _ (o : ℕ) (Z : Tasks whole) (okz : Proper Z) (deepz : (k : ℕ) → k <
         O = onward q
 
         q-in : In J O (T q)
-        q-in = record { small = rk .task q (stopped .small); mem = on-out q (T q) (omega (arith, rk .back q (stopped .small))) (stopped .mem) }
+        q-in = suffixes.onward-first J T rank rk Θ q (stopped .small) (stopped .mem)
 
         low-O : (k : ℕ) → In J O k → ea q ≤ J .earliest k
-        low-O k h = after q k (h .small) ((on-in q k (h .mem)) .0)
+        low-O k h = suffixes.after J T rank rk Θ q k (h .small) ((suffixes.onward-in J T rank rk Θ q k (h .mem)) .0)
 
         ends-O : (k : ℕ) → In J O k → completion J k ≤ c
-        ends-O k h = stops.ends o J ok estOrder lctOrder rk ord t ls Λ s small k (record { small = h .small; mem = (on-in q k (h .mem)) .1 })
+        ends-O k h = stops.ends o J ok estOrder lctOrder rk ord t ls Λ s small k (record { small = h .small; mem = (suffixes.onward-in J T rank rk Θ q k (h .mem)) .1 })
 
         slack : c + (left + right) + 1 ≡ ea q + dr q
         slack = omega (arith, stopped .over)
@@ -358,12 +336,10 @@ module _ (o : ℕ) (Z : Tasks whole) (okz : Proper Z) (deepz : (k : ℕ) → k <
 
         alone : PassesAlone Z In-O
         alone = record {
-          ranges = B In-O O (S .earliest) (S .latest) range-O says-O;
+          ranges = instants o S;
           set = O;
           bounded = bounded In-O O (S .earliest) (S .latest) range-O says-O;
-          formula = overloads-down o (B In-O O (S .earliest) (S .latest) range-O says-O) (okz .lasts) O (S .earliest) (S .latest) (λ k h. instant-above o (S .earliest k))
-              (in-range In-O O (S .earliest) (S .latest) range-O says-O) (λ k h. moment-instant o (S .earliest k)) (λ k h. moment-instant o (S .latest k))
-              O (λ k h. h .mem) (why.span-overloads J ok O (ea q) c left right (T q, q-in) low-O ends-O slack roomy);
+          formula = overloads-down o S O (why.span-overloads J ok O (ea q) c left right (T q, q-in) low-O ends-O slack roomy);
         }
 
         entry-O : HoldsAtEntry Z In-O

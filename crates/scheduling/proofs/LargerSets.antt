@@ -2,7 +2,7 @@
 use Prim.Native.Nat.{ℕ, _≤_}
 use Rattle.scheduling.specs.Scheduling.{natural, Tasks, TaskSet, Subset, Lct, EstPlusP, Ect}
 
-pub part-mono : (J : Tasks natural) (S Ω : TaskSet) (v : ℕ) → Subset J S Ω → EstPlusP J S v → EstPlusP J Ω v
+unfoldable pub part-mono : (J : Tasks natural) (S Ω : TaskSet) (v : ℕ) → Subset J S Ω → EstPlusP J S v → EstPlusP J Ω v
 part-mono J S Ω v h f = record { part = f .part; within = λ k q. h k (record { small = q .small; mem = f .within k q }); start = f .start; est = f .est; sum = f .sum }
 
 pub ect-mono : (J : Tasks natural) (S Ω : TaskSet) (v w : ℕ) → Subset J S Ω → Ect J S v → Ect J Ω w → v ≤ w

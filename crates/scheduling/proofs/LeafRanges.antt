@@ -60,24 +60,22 @@ module _ (w g : ℕ → Bool) (e p : ℕ → ℕ) where
   ect-bar a zero = 0
   ect-bar a (suc d) = cond (w (a + d)) (max (ect-bar a d) (e (a + d)) + p (a + d)) (cond (g (a + d)) (max (ect-bar a d) (max (ect a d) (e (a + d)) + p (a + d))) (ect-bar a d))
 
+  -- the values of d leaves from a on
+  pub record Values (a d S E SB EB : ℕ) : Type 0 where
+    pub s : sum a d ≡ S
+    pub t : ect a d ≡ E
+    pub sb : sum-bar a d ≡ SB
+    pub tb : ect-bar a d ≡ EB
+
   -- one leaf more, at x
-  pub record White (a d x : ℕ) : Type 0 where
-    pub s : sum a (suc d) ≡ sum a d + p x
-    pub t : ect a (suc d) ≡ max (ect a d) (e x) + p x
-    pub sb : sum-bar a (suc d) ≡ sum-bar a d + p x
-    pub tb : ect-bar a (suc d) ≡ max (ect-bar a d) (e x) + p x
+  abbrev pub White : ℕ → ℕ → ℕ → Type 0
+  White a d x = Values a (suc d) (sum a d + p x) (max (ect a d) (e x) + p x) (sum-bar a d + p x) (max (ect-bar a d) (e x) + p x)
 
-  pub record Gray (a d x : ℕ) : Type 0 where
-    pub s : sum a (suc d) ≡ sum a d
-    pub t : ect a (suc d) ≡ ect a d
-    pub sb : sum-bar a (suc d) ≡ max (sum-bar a d) (sum a d + p x)
-    pub tb : ect-bar a (suc d) ≡ max (ect-bar a d) (max (ect a d) (e x) + p x)
+  abbrev pub Gray : ℕ → ℕ → ℕ → Type 0
+  Gray a d x = Values a (suc d) (sum a d) (ect a d) (max (sum-bar a d) (sum a d + p x)) (max (ect-bar a d) (max (ect a d) (e x) + p x))
 
-  pub record None (a d : ℕ) : Type 0 where
-    pub s : sum a (suc d) ≡ sum a d
-    pub t : ect a (suc d) ≡ ect a d
-    pub sb : sum-bar a (suc d) ≡ sum-bar a d
-    pub tb : ect-bar a (suc d) ≡ ect-bar a d
+  abbrev pub None : ℕ → ℕ → Type 0
+  None a d = Values a (suc d) (sum a d) (ect a d) (sum-bar a d) (ect-bar a d)
 
   pub white : (a d x : ℕ) → a + d ≡ x → w x ≡ true → White a d x
   unfolding sum ect sum-bar ect-bar
@@ -92,13 +90,7 @@ module _ (w g : ℕ → Bool) (e p : ℕ → ℕ) where
   no-leaf a d x z = subst (λ (x : ℕ). w x ≡ false → g x ≡ false → None a d) z (λ y v. record { s = rw (y, sum); t = rw (y, ect); sb = rw (y, v, sum-bar); tb = rw (y, v, ect-bar) })
 
   -- a range with no leaf
-  pub record Blank (a : ℕ) : Type 0 where
-    pub s : sum a 0 ≡ 0
-    pub t : ect a 0 ≡ 0
-    pub sb : sum-bar a 0 ≡ 0
-    pub tb : ect-bar a 0 ≡ 0
-
-  pub blank : (a : ℕ) → Blank a
+  pub blank : (a : ℕ) → Values a 0 0 0 0 0
   unfolding sum ect sum-bar ect-bar
   blank a = record { s = refl; t = refl; sb = refl; tb = refl }
 

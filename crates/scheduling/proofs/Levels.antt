@@ -7,7 +7,8 @@ use native.Mathlib.Omega.{arith}
 use native.Mathlib.Decide.{decLe, decLt, ℕ-discrete}
 use borrow.Author.Tests.{leb-true, le-leb, lt-leb}
 use lib.Dec.{leb}
-use Rattle.scheduling.specs.Scheduling.{natural, Tasks, Proper, TaskSet, _with_, Largest, In, Outside, NonEmpty, Subset, completion, processing, EstPlusP, Ect, Overloads, EdgeFindingBound, Done}
+use Rattle.scheduling.specs.Scheduling.{natural, Tasks, Proper, TaskSet, _with_, Largest, In, Outside, NonEmpty, Subset, completion, Lct}
+use Rattle.scheduling.specs.Scheduling.{processing, EstPlusP, Ect, Overloads, EdgeFindingBound, Done}
 use Rattle.scheduling.specs.Moments.{ByCompletion}
 use Rattle.integers.proofs.Bools.{bool, clash, below-suc}
 use Rattle.scheduling.proofs.Sets.{top, _less_, less-in, less-out, with-in, with-new, with-old}
@@ -122,16 +123,7 @@ module _ (J : Tasks natural) (ok : Proper J) (ect : TaskSet → ℕ) (ect-is : (
   pub leave : (t : ℕ) (Λ Λ′ : TaskSet) (now now′ : ℕ → ℕ) (i : ℕ) → Facts t Λ now → In J Λ i → End t < ect (Θ t with i)
       → now′ i ≡ max (J .earliest i) (ect (Θ t)) → now′ i ≤ J .latest i → ((k : ℕ) → (k ≡ i → ⊥) → now′ k ≡ now k)
       → ((k : ℕ) → k < J .count → Λ′ k ≡ (Λ less i) k) → Facts t Λ′ now′
-  leave t Λ Λ′ now now′ i f h over new fits others same =
-      record {
-        fits-before = f .fits-before;
-        gray = λ k m. f .gray k (kept k m);
-        not-passed = λ k m. f .not-passed k (kept k m);
-        left = left;
-        same-in = λ k m. rw (others k (apart k m)) (f .same-in k (kept k m));
-        same-on = same-on;
-        inside = inside;
-      }
+  leave t Λ Λ′ now now′ i f h over new fits others same = search (f .gray, f .not-passed, kept, left, same-in, same-on, inside)
     where
       kept : (k : ℕ) → In J Λ′ k → In J Λ k
       kept k m = record { small = m .small; mem = less-in Λ i k (sym (same k (m .small)) ∙ m .mem) .0 }
@@ -144,6 +136,9 @@ module _ (J : Tasks natural) (ok : Proper J) (ect : TaskSet → ℕ) (ect-is : (
         | yes z ↦ rw z (record { level = t; late = f .gray i h; seen = omega arith; passes = over; first = f .not-passed i h; raised = new })
         | no z ↦ rw (others k z) (f .left k (record { small = m .small; mem = elim (bool (Λ k)) [ inl y ↦ clash (less-out Λ i k y z) (sym (same k (m .small)) ∙ m .mem) | inr y ↦ y ] }) q)
       ]
+
+      same-in : (k : ℕ) → In J Λ′ k → now′ k ≡ J .earliest k
+      same-in k m = rw (others k (apart k m)) (f .same-in k (kept k m))
 
       same-on : (k : ℕ) → k < J .count → t ≤ place k → now′ k ≡ J .earliest k
       same-on k q r = rw (others k (λ z. omega (arith, f .gray i h, ap place z))) (f .same-on k q r)
@@ -195,16 +190,10 @@ module _ (J : Tasks natural) (ok : Proper J) (ect : TaskSet → ℕ) (ect-is : (
   -- a level that i passes gives a bound of i
   pub edge : (t i : ℕ) → i < J .count → place i < t → t < J .count → End t < ect (Θ t with i) → EdgeFindingBound J i (ect (Θ t))
   edge t i q late small over =
-      record {
-        set = Θ t;
-        outside = record { small = q; mem = lt-leb t (place i) late };
-        end = End t;
-        lct = record { holds = (L t, in-Θ t (L t) (ord .task t small) (omega (arith, ord .back t small)), refl); bounds = λ w h. omega (arith, ends-by t (h .0) (h .1), h .2) };
-        joint = ect (Θ t with i);
-        ect-with = ect-is (Θ t with i) (i, record { small = q; mem = with-new (Θ t) i });
-        passes = over;
-        ect = ect-is (Θ t) (Θ-some t small);
-      }
+      let outside : Outside J (Θ t) i = record { small = q; mem = lt-leb t (place i) late } in
+      let lct : Lct J (Θ t) (End t)
+      = record { holds = (L t, in-Θ t (L t) (ord .task t small) (omega (arith, ord .back t small)), refl); bounds = λ w h. omega (arith, ends-by t (h .0) (h .1), h .2) } in
+      search (outside, lct, over, ect-is (Θ t with i) (i, record { small = q; mem = with-new (Θ t) i }), ect-is (Θ t) (Θ-some t small))
 
   -- At the end of a level all of whose Λ is quiet:
   module _ (t : ℕ) (Λ : TaskSet) (now : ℕ → ℕ) (end : suc t ≡ J .count) (f : Facts t Λ now) (none-passes : (k : ℕ) → In J Λ k → ect (Θ t with k) ≤ End t) where
@@ -214,55 +203,48 @@ module _ (J : Tasks natural) (ok : Proper J) (ect : TaskSet → ℕ) (ect-is : (
     waited : (k : ℕ) → In J Λ k → (r : ℕ) → place k < r → r < J .count → ect (Θ r with k) ≤ End r
     waited k h r a q = below-suc (λ r. place k < r → ect (Θ r with k) ≤ End r) t (λ r q a. f .not-passed k h r a q) (λ _. none-passes k h) r (omega arith) a
 
-    -- what an edge-finding bound of i comes to: i left Λ, with a bound as large
-    edge-left : (i b : ℕ) → EdgeFindingBound J i b → (o : LeftLambda t i (now i)) × (b ≤ ect (Θ (o .level)))
-    edge-left i b r = by (bool (Λ i))
-      where
-        k : ℕ
-        k = (first-of (r .set) (r .lct .holds .0, r .lct .holds .1)) .0
+    -- an edge-finding bound of i, and the first task of its set
+    module _ (i b : ℕ) (r : EdgeFindingBound J i b) (k : ℕ) (km : In J (r .set) k) (sub : Subset J (r .set) (Θ (place k))) where
+      small : place k < J .count
+      small = ord .placed k (km .small)
 
-        km : In J (r .set) k
-        km = (first-of (r .set) (r .lct .holds .0, r .lct .holds .1)) .1
+      -- the level of k is passed with i
+      over : End (place k) < ect (Θ (place k) with i)
+      over = rw (ord .there k (km .small)) (omega (
+        arith,
+        r .lct .bounds (completion J k) (k, km, refl),
+        r .passes,
+        ect-mono J (r .set with i) (Θ (place k) with i) (r .joint) (ect (Θ (place k) with i)) (with-mono (r .set) (Θ (place k)) i sub) (r .ect-with)
+            (ect-is (Θ (place k) with i) (i, record { small = r .outside .small; mem = with-new (Θ (place k)) i })),
+      ))
 
-        sub : Subset J (r .set) (Θ (place k))
-        sub = (first-of (r .set) (r .lct .holds .0, r .lct .holds .1)) .2
-
-        small : place k < J .count
-        small = ord .placed k (km .small)
-
-        -- the level of k is passed with i
-        over : End (place k) < ect (Θ (place k) with i)
-        over = rw (ord .there k (km .small)) (omega (
+      before : place i < place k
+      before = elim (decLt (place i) (place k)) [
+        | yes q ↦ q
+        | no q ↦ absurd (omega (
           arith,
-          r .lct .bounds (completion J k) (k, km, refl),
-          r .passes,
-          ect-mono J (r .set with i) (Θ (place k) with i) (r .joint) (ect (Θ (place k) with i)) (with-mono (r .set) (Θ (place k)) i sub) (r .ect-with)
-              (ect-is (Θ (place k) with i) (i, record { small = r .outside .small; mem = with-new (Θ (place k)) i })),
+          over,
+          level-fits (place k) small,
+          ect-mono J (Θ (place k) with i) (Θ (place k)) (ect (Θ (place k) with i)) (ect (Θ (place k)))
+              (λ j h. elim (with-in (Θ (place k)) i j (h .mem)) [ inl z ↦ rw z (le-leb (place k) (place i) (omega arith)) | inr y ↦ y ])
+              (ect-is (Θ (place k) with i) (i, record { small = r .outside .small; mem = with-new (Θ (place k)) i })) (ect-is (Θ (place k)) (Θ-some (place k) small)),
         ))
+      ]
 
-        before : place i < place k
-        before = elim (decLt (place i) (place k)) [
-          | yes q ↦ q
-          | no q ↦ absurd (omega (
-            arith,
-            over,
-            level-fits (place k) small,
-            ect-mono J (Θ (place k) with i) (Θ (place k)) (ect (Θ (place k) with i)) (ect (Θ (place k)))
-                (λ j h. elim (with-in (Θ (place k)) i j (h .mem)) [ inl z ↦ rw z (le-leb (place k) (place i) (omega arith)) | inr y ↦ y ])
-                (ect-is (Θ (place k) with i) (i, record { small = r .outside .small; mem = with-new (Θ (place k)) i })) (ect-is (Θ (place k)) (Θ-some (place k) small)),
-          ))
-        ]
+      by : (Λ i ≡ true) ⊎ (Λ i ≡ false) → (o : LeftLambda t i (now i)) × (b ≤ ect (Θ (o .level)))
+      by (inl y) = absurd (omega (arith, over, waited i (record { small = r .outside .small; mem = y }) (place k) before small))
+      by (inr y) =
+          let o : LeftLambda t i (now i) = f .left i (record { small = r .outside .small; mem = y }) (omega (arith, before, small)) in
+          let lv : o .level ≤ place k = elim (decLe (o .level) (place k)) [ yes q ↦ q | no q ↦ absurd (omega (arith, over, o .first (place k) before (omega arith))) ] in (
+            o,
+            ect-mono J (r .set) (Θ (o .level)) b (ect (Θ (o .level)))
+                (λ j h. le-leb (o .level) (place j) (omega (arith, leb-true (place k) (place j) (sub j h))))
+                (r .ect) (ect-is (Θ (o .level)) (Θ-some (o .level) (omega arith))),
+          )
 
-        by : (Λ i ≡ true) ⊎ (Λ i ≡ false) → (o : LeftLambda t i (now i)) × (b ≤ ect (Θ (o .level)))
-        by (inl y) = absurd (omega (arith, over, waited i (record { small = r .outside .small; mem = y }) (place k) before small))
-        by (inr y) =
-            let o : LeftLambda t i (now i) = f .left i (record { small = r .outside .small; mem = y }) (omega (arith, before, small)) in
-            let lv : o .level ≤ place k = elim (decLe (o .level) (place k)) [ yes q ↦ q | no q ↦ absurd (omega (arith, over, o .first (place k) before (omega arith))) ] in (
-              o,
-              ect-mono J (r .set) (Θ (o .level)) b (ect (Θ (o .level)))
-                  (λ j h. le-leb (o .level) (place j) (omega (arith, leb-true (place k) (place j) (sub j h))))
-                  (r .ect) (ect-is (Θ (o .level)) (Θ-some (o .level) (omega arith))),
-            )
+    -- what it comes to: i left Λ, with a bound as large
+    edge-left : (i b : ℕ) → EdgeFindingBound J i b → (o : LeftLambda t i (now i)) × (b ≤ ect (Θ (o .level)))
+    edge-left i b r = let (k, km, sub) = first-of (r .set) (r .lct .holds .0, r .lct .holds .1) in by i b r k km sub (bool (Λ i))
 
     -- and the other way: what i left with is an edge-finding bound
     left-edge : (i new : ℕ) → i < J .count → (o : LeftLambda t i new) → EdgeFindingBound J i (ect (Θ (o .level)))
@@ -310,16 +292,9 @@ module _ (J : Tasks natural) (ok : Proper J) (ect : TaskSet → ℕ) (ect-is : (
 
     pub finish : (m : ℕ) (task bound : ℕ → ℕ) → Posts J now m task bound → Done J now m task bound
     finish m task bound p =
-        record {
-          no-overload = no-overload;
-          no-passing = no-passing;
-          starts = starts;
-          small = p .small;
-          raises = p .raises;
-          every = p .every;
-          once = p .once;
-          at-largest = λ j q. rw (p .agrees j q) (largest (task j) (p .small j q) (omega (arith, p .raises j q, p .agrees j q)));
-        }
+        let at-largest : (j : ℕ) → j < m → Largest natural (EdgeFindingBound J (task j)) (bound j)
+        = λ j q. rw (p .agrees j q) (largest (task j) (p .small j q) (omega (arith, p .raises j q, p .agrees j q))) in
+        search (no-overload, no-passing, starts, at-largest)
 
   -- A level whose ect passes its end holds a set that overloads its span.
   pub overloaded : (t : ℕ) → t < J .count → End t < ect (Θ t) → (Ω : TaskSet) × Overloads J Ω

@@ -1,5 +1,6 @@
 pub mod Sets
 pub mod Processing
+pub mod Correspondence
 pub mod Agreement
 pub mod SetSizes
 pub mod Windows

@@ -7,7 +7,8 @@ use native.Mathlib.Omega.{arith}
 use lib.IntN.{ℤ, pos, negℤ, _+ℤ_}
 use lib.Signed.{_≤ℤ_, _<ℤ_}
 use Rattle.integers.proofs.Ints.{up, dn, ints, sumℤ, up-neg, dn-neg}
-use Rattle.scheduling.specs.Scheduling.{whole, Tasks, TaskSet, _with_, Largest, Least, In, completion, Est, Lct, processing, EstPlusP, Ect, Overloads, EdgeFindingBound, Schedule, Conflict, Done}
+use Rattle.scheduling.specs.Scheduling.{whole, Tasks, TaskSet, _with_, Largest, Least, In, Outside, completion, Est, Lct, processing}
+use Rattle.scheduling.specs.Scheduling.{EstPlusP, Ect, Overloads, EdgeFindingBound, Schedule, Conflict, Done}
 use Rattle.scheduling.specs.Scheduling.{Atom, Compares, Meets, Every, HoldsAtEntry}
 use Rattle.scheduling.specs.MirroredTime.{mirrorStart, mirror, mirrorKind, mirrorAtom, mirrorAtoms, LctLessP, Lst, MirroredBound, MirroredConflict, MirroredDone}
 
@@ -90,24 +91,22 @@ module _ (J : Tasks whole) where
   same-processing Ω = refl
 
   module _ (Ω : TaskSet) where
+    -- f over the one tasks is −g over the other
+    values : (K L : Tasks whole) (f g : ℕ → ℤ) → K .count ≡ L .count → ((k : ℕ) → g k ≡ negℤ (f k)) → (w : ℤ) → ((k : ℕ) × In K Ω k × (f k ≡ w)) → (k : ℕ) × In L Ω k × (g k ≡ negℤ w)
+    values K L f g e is w (k, h, z) = (k, record { small = subst (λ (n : ℕ). k < n) e (h .small); mem = h .mem }, is k ∙ ap negℤ z)
+
+    back : {a b : ℤ} → a ≡ negℤ b → b ≡ negℤ a
+    back {a} {b} e = sym (neg-twice b) ∙ ap negℤ (sym e)
+
     -- a completion mirrored is an earliest start negated, and an earliest start mirrored a completion negated
-    starts : (w : ℤ) → ((k : ℕ) × In M Ω k × (completion M k ≡ w)) → (k : ℕ) × In J Ω k × (J .earliest k ≡ negℤ w)
-    starts w (k, h, z) = (k, here h, sym (neg-twice (J .earliest k)) ∙ ap negℤ (sym (mirrored-end (d k) (J .earliest k)) ∙ z))
-
-    ends : (w : ℤ) → ((k : ℕ) × In J Ω k × (J .earliest k ≡ w)) → (k : ℕ) × In M Ω k × (completion M k ≡ negℤ w)
-    ends w (k, h, z) = (k, there h, mirrored-end (d k) (J .earliest k) ∙ ap negℤ z)
-
     pub lct-mirrored : (t : ℤ) → Lct M Ω t ↔ Est J Ω (negℤ t)
-    lct-mirrored = largest-least negℤ neg-twice neg-falls (λ t. (k : ℕ) × In M Ω k × (completion M k ≡ t)) (λ t. (k : ℕ) × In J Ω k × (J .earliest k ≡ t)) starts ends
-
-    starts′ : (w : ℤ) → ((k : ℕ) × In J Ω k × (completion J k ≡ w)) → (k : ℕ) × In M Ω k × (M .earliest k ≡ negℤ w)
-    starts′ w (k, h, z) = (k, there h, ap negℤ z)
-
-    ends′ : (w : ℤ) → ((k : ℕ) × In M Ω k × (M .earliest k ≡ w)) → (k : ℕ) × In J Ω k × (completion J k ≡ negℤ w)
-    ends′ w (k, h, z) = (k, here h, sym (neg-twice (completion J k)) ∙ ap negℤ z)
+    lct-mirrored = let is : (k : ℕ) → completion M k ≡ negℤ (J .earliest k) = λ k. mirrored-end (d k) (J .earliest k) in
+        largest-least negℤ neg-twice neg-falls (λ t. (k : ℕ) × In M Ω k × (completion M k ≡ t)) (λ t. (k : ℕ) × In J Ω k × (J .earliest k ≡ t))
+        (values M J (completion M) (J .earliest) refl (λ k. back (is k))) (values J M (J .earliest) (completion M) refl is)
 
     pub est-mirrored : (t : ℤ) → Est M Ω t ↔ Lct J Ω (negℤ t)
-    est-mirrored = least-largest negℤ neg-twice neg-falls (λ t. (k : ℕ) × In J Ω k × (completion J k ≡ t)) (λ t. (k : ℕ) × In M Ω k × (M .earliest k ≡ t)) starts′ ends′
+    est-mirrored = least-largest negℤ neg-twice neg-falls (λ t. (k : ℕ) × In J Ω k × (completion J k ≡ t)) (λ t. (k : ℕ) × In M Ω k × (M .earliest k ≡ t))
+        (values J M (completion J) (M .earliest) refl (λ k. refl)) (values M J (M .earliest) (completion J) refl (λ k. back refl))
 
   module _ (Ω : TaskSet) where
     less : (t : ℤ) → EstPlusP M Ω t → LctLessP J Ω (negℤ t)
@@ -143,37 +142,24 @@ module _ (J : Tasks whole) where
   over-too start end p h = omega (ints, sumℤ start (pos p), sumℤ (negℤ end) (pos p), at-neg start, at-neg end)
 
   overload→ : (Ω : TaskSet) → Overloads M Ω → Overloads J Ω
-  overload→ Ω v = record {
-    start = negℤ (v .end);
-    end = negℤ (v .start);
-    est = lct-mirrored Ω (v .end) .0 (v .lct);
-    lct = est-mirrored Ω (v .start) .0 (v .est);
-    over = subst (λ (p : ℕ). negℤ (v .start) <ℤ (negℤ (v .end) +ℤ pos p)) (same-processing Ω) (over-too (v .start) (v .end) (processing M Ω) (v .over));
-  }
+  overload→ Ω v =
+      let over = subst (λ (p : ℕ). negℤ (v .start) <ℤ (negℤ (v .end) +ℤ pos p)) (same-processing Ω) (over-too (v .start) (v .end) (processing M Ω) (v .over)) in
+      search (lct-mirrored Ω (v .end) .0 (v .lct), est-mirrored Ω (v .start) .0 (v .est), over)
 
   edge→ : (i : ℕ) (b : ℤ) → EdgeFindingBound M i b → MirroredBound J i (mirrorStart (d i) b)
-  edge→ i b r = record {
-    set = r .set;
-    outside = record { small = r .outside .small; mem = r .outside .mem };
-    start = negℤ (r .end);
-    est = lct-mirrored (r .set) (r .end) .0 (r .lct);
-    joint = negℤ (r .joint);
-    lst-with = ect-mirrored (r .set with i) (r .joint) .0 (r .ect-with);
-    passes = let q : r .end <ℤ r .joint = r .passes in omega (ints, at-neg (r .end), at-neg (r .joint));
-    lst = subst (Lst J (r .set)) (sym (mirrored-end (d i) b)) (ect-mirrored (r .set) b .0 (r .ect));
-  }
+  edge→ i b r =
+      let outside : Outside J (r .set) i = record { small = r .outside .small; mem = r .outside .mem } in
+      let passes : negℤ (r .joint) <ℤ negℤ (r .end) = let q : r .end <ℤ r .joint = r .passes in omega (ints, at-neg (r .end), at-neg (r .joint)) in
+      let lst = subst (Lst J (r .set)) (sym (mirrored-end (d i) b)) (ect-mirrored (r .set) b .0 (r .ect)) in
+      search (outside, lct-mirrored (r .set) (r .end) .0 (r .lct), ect-mirrored (r .set with i) (r .joint) .0 (r .ect-with), passes, lst)
 
   edge← : (i : ℕ) (b : ℤ) → MirroredBound J i (mirrorStart (d i) b) → EdgeFindingBound M i b
-  edge← i b r = record {
-    set = r .set;
-    outside = record { small = r .outside .small; mem = r .outside .mem };
-    end = negℤ (r .start);
-    lct = lct-mirrored (r .set) (negℤ (r .start)) .1 (subst (Est J (r .set)) (sym (neg-twice (r .start))) (r .est));
-    joint = negℤ (r .joint);
-    ect-with = ect-mirrored (r .set with i) (negℤ (r .joint)) .1 (subst (Lst J (r .set with i)) (sym (neg-twice (r .joint))) (r .lst-with));
-    passes = let q : r .joint <ℤ r .start = r .passes in omega (ints, at-neg (r .start), at-neg (r .joint));
-    ect = ect-mirrored (r .set) b .1 (subst (Lst J (r .set)) (mirrored-end (d i) b) (r .lst));
-  }
+  edge← i b r =
+      let outside : Outside M (r .set) i = record { small = r .outside .small; mem = r .outside .mem } in
+      let lct = lct-mirrored (r .set) (negℤ (r .start)) .1 (subst (Est J (r .set)) (sym (neg-twice (r .start))) (r .est)) in
+      let ect-with = ect-mirrored (r .set with i) (negℤ (r .joint)) .1 (subst (Lst J (r .set with i)) (sym (neg-twice (r .joint))) (r .lst-with)) in
+      let passes : negℤ (r .start) <ℤ negℤ (r .joint) = let q : r .joint <ℤ r .start = r .passes in omega (ints, at-neg (r .start), at-neg (r .joint)) in
+      search (outside, lct, ect-with, passes, ect-mirrored (r .set) b .1 (subst (Lst J (r .set)) (mirrored-end (d i) b) (r .lst)))
 
   pub edge-mirrored : (i : ℕ) (b : ℤ) → EdgeFindingBound M i b ↔ MirroredBound J i (mirrorStart (d i) b)
   edge-mirrored i b = (edge→ i b, edge← i b)

@@ -80,18 +80,11 @@ module _ (J : Tasks natural) (ok : Proper J) (Ω Ω′ : TaskSet) (i r s′ b c 
       let dl : d ≤ last = omega (arith, de .holds .2, late (de .holds .0) (in← (de .holds .1)), ends (de .holds .0) (in← (de .holds .1))) in
       let ri : Given .earliest i ≡ r = rw out′ in
       let li : Given .latest i ≡ b - 1 = rw (eq-eqb i i refl) in
-      record {
-        outside = record { small = out .small; mem = out .mem };
-        start = a;
-        end = d;
-        joint = v;
-        est = ae;
-        lct = de;
-        ect = ve;
-        over-i = omega (arith, processing-eq Ω, ri);
-        over-Ω = omega (arith, processing-eq Ω);
-        passes = omega (arith, li, ve .bounds b fill′, bound, processing-less J Ω′ k km, ok .lasts k (km .small));
-      }
+      let outside : Outside Given Ω i = record { small = out .small; mem = out .mem } in
+      let over-i : d < Given .earliest i + (processing Given Ω + J .duration i) = omega (arith, processing-eq Ω, ri) in
+      let over-Ω : d < a + (processing Given Ω + J .duration i) = omega (arith, processing-eq Ω) in
+      let past : Given .latest i < v = omega (arith, li, ve .bounds b fill′, bound, processing-less J Ω′ k km, ok .lasts k (km .small)) in
+      search (outside, ae, de, ve, over-i, over-Ω, past)
 
 -- The reason of an overload: all of Ω starts at a − left or later and ends by c + right. What a + p Ω passes c by is left + right + 1.
 module _ (J : Tasks natural) (ok : Proper J) (Ω : TaskSet) (a c left right : ℕ) (some : NonEmpty J Ω) (low : (k : ℕ) → In J Ω k → a ≤ J .earliest k) (ends : (k : ℕ) → In J Ω k → completion J k ≤ c)

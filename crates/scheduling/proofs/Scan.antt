@@ -12,6 +12,7 @@ use Rattle.integers.proofs.Bools.{bool, clash, and-true}
 use Rattle.scheduling.specs.Scheduling.{natural, Tasks, Proper, TaskSet, _with_, In, NonEmpty, Subset, processing, EstPlusP, Ect}
 use Rattle.scheduling.specs.Moments.{ByEarliest}
 use Rattle.scheduling.proofs.Sets.{_less_, less-in, less-out, with-in, with-new, with-old}
+use Rattle.scheduling.proofs.LargerSets.{part-mono}
 use Rattle.scheduling.proofs.Processing.{processing-less, processing-empty, processing-mono, processing-with}
 
 module _ (J : Tasks natural) (T rank : ℕ → ℕ) where
@@ -79,13 +80,7 @@ module _ (J : Tasks natural) (T rank : ℕ → ℕ) where
     scan-zero = refl
 
     pub widen : (j v : ℕ) → EstPlusP J (upto Ω j) v → EstPlusP J (upto Ω (suc j)) v
-    widen j v f = record {
-      part = f .part;
-      start = f .start;
-      est = f .est;
-      sum = f .sum;
-      within = λ k h. let u = and-in Ω j k (f .within k h) in and-out Ω (suc j) k (omega (arith, u .0)) (u .1);
-    }
+    widen j v = part-mono J (upto Ω j) (upto Ω (suc j)) v (λ k h. let u = and-in Ω j k (h .mem) in and-out Ω (suc j) k (omega (arith, u .0)) (u .1))
 
     -- the task of rank j alone
     pub alone : (j : ℕ) → j < J .count → Ω (T j) ≡ true → EstPlusP J (upto Ω (suc j)) (J .earliest (T j) + J .duration (T j))
@@ -140,7 +135,7 @@ module _ (J : Tasks natural) (T rank : ℕ → ℕ) where
         ]
 
     pub widen-part : (j v : ℕ) (f : EstPlusP J (upto Ω j) v) (i : ℕ) → f .part i ≡ true → (widen j v f) .part i ≡ true
-    unfolding widen
+    unfolding widen part-mono
     widen-part j v f i h = h
 
     pub alone-part : (j : ℕ) (q : j < J .count) (y : Ω (T j) ≡ true) → (alone j q y) .part (T j) ≡ true

@@ -5,9 +5,9 @@ use mathlib.Core.Logic.{_⊎_, inl, inr}
 use Prim.Native.Nat.{ℕ, zero, suc, _+_, _≤_, _<_}
 use native.Mathlib.Omega.{arith}
 use native.Mathlib.Numerals.{add-one}
-use native.Mathlib.Decide.{decLe, decLt}
+use native.Mathlib.Decide.{decLe, decLt, ℕ-discrete}
 use lib.Dec.{eqb}
-use borrow.Author.Tests.{eqb-true, eqb-false, eq-eqb, ne-eqb}
+use borrow.Author.Tests.{eq-eqb, ne-eqb}
 use Rattle.integers.proofs.Bools.{bool, clash, below-suc}
 use Rattle.scheduling.specs.Scheduling.{TaskSet, total, _with_}
 
@@ -77,11 +77,8 @@ unfolding total
 total-less f g zero i q h s = absurd (omega arith)
 total-less f g (suc n) i q h s = elim (decLt i n) [
   | yes r ↦ omega (arith, total-less f g n i r (λ k t. h k (omega arith)) s, h n (omega arith))
-  | no r ↦ last (omega arith)
+  | no r ↦ (let z : i ≡ n = omega arith in let w : f n < g n = rw z at s in omega (arith, total-mono f g n (λ k t. h k (omega arith))))
 ]
-  where
-    last : i ≡ n → total f (suc n) < total g (suc n)
-    last z = let w : f n < g n = rw z at s in omega (arith, total-mono f g n (λ k t. h k (omega arith)))
 
 -- more numbers, no smaller sum
 pub total-up : (f : ℕ → ℕ) (m n : ℕ) → m ≤ n → total f m ≤ total f n
@@ -91,10 +88,10 @@ total-up f m n q = elim (decLt m n) [ yes r ↦ omega (arith, total-part f n m r
 pub total-swap : (f g : ℕ → ℕ) (n i : ℕ) → i < n → ((k : ℕ) → (k ≡ i → ⊥) → f k ≡ g k) → total f n + g i ≡ total g n + f i
 unfolding total
 total-swap f g zero i q h = absurd (omega arith)
-total-swap f g (suc n) i q h = elim (decLt i n) [ yes r ↦ omega (arith, total-swap f g n i r h, h n (λ z. omega arith)) | no r ↦ last (omega arith) ]
-  where
-    last : n ≡ i → total f (suc n) + g i ≡ total g (suc n) + f i
-    last z = rw (← z) (omega (arith, total-ext f g n (λ k s. h k (λ w. omega arith))))
+total-swap f g (suc n) i q h = elim (decLt i n) [
+  | yes r ↦ omega (arith, total-swap f g n i r h, h n (λ z. omega arith))
+  | no r ↦ (let z : n ≡ i = omega arith in rw (← z) (omega (arith, total-ext f g n (λ k s. h k (λ w. omega arith)))))
+]
 
 -- a set with one task taken out
 abbrev pub _less_ : TaskSet → ℕ → TaskSet
@@ -102,21 +99,13 @@ _less_ Ω i k = not (eqb k i) && Ω k
 
 infixl 20 _less_
 pub less-in : (Ω : TaskSet) (i k : ℕ) → (Ω less i) k ≡ true → (Ω k ≡ true) × (k ≡ i → ⊥)
-less-in Ω i k h = go (eqb k i) refl h
-  where
-    go : (b : Bool) → eqb k i ≡ b → not b && Ω k ≡ true → (Ω k ≡ true) × (k ≡ i → ⊥)
-    go true e q = clash q refl
-    go false e q = (q, eqb-false k i e)
+less-in Ω i k h = elim (ℕ-discrete k i) [ yes z ↦ clash h (rw (eq-eqb k i z)) | no z ↦ (rw (ne-eqb k i z) at h, z) ]
 
 pub less-out : (Ω : TaskSet) (i k : ℕ) → Ω k ≡ true → (k ≡ i → ⊥) → (Ω less i) k ≡ true
 less-out Ω i k h ne = rw (ne-eqb k i ne) h
 
 pub with-in : (Ω : TaskSet) (i k : ℕ) → (Ω with i) k ≡ true → (k ≡ i) ⊎ (Ω k ≡ true)
-with-in Ω i k h = go (eqb k i) refl h
-  where
-    go : (b : Bool) → eqb k i ≡ b → b || Ω k ≡ true → (k ≡ i) ⊎ (Ω k ≡ true)
-    go true e q = inl (eqb-true k i e)
-    go false e q = inr q
+with-in Ω i k h = elim (ℕ-discrete k i) [ yes z ↦ inl z | no z ↦ inr (rw (ne-eqb k i z) at h) ]
 
 pub with-new : (Ω : TaskSet) (i : ℕ) → (Ω with i) i ≡ true
 with-new Ω i = rw (eq-eqb i i refl)

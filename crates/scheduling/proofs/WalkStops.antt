@@ -1,6 +1,6 @@
 -- A reason's two walks over Θ, in the order of earliest starts, stop inside it: where i is posted some suffix passes lct, and the suffix
 -- whose est + p is ect(Θ) stands at or after the first that does.
-use mathlib.Core.Path.{_≡_, refl}
+use mathlib.Core.Path.{_≡_, refl, ap}
 use mathlib.Core.Bool.{true}
 use mathlib.Core.Logic.{_⊎_, inl, inr}
 use Prim.Native.Nat.{ℕ, _+_, _≤_, _<_, min}
@@ -10,7 +10,7 @@ use Rattle.scheduling.specs.Scheduling.{natural, Tasks, TaskSet, _with_,
 use Rattle.scheduling.specs.Moments.{ByEarliest}
 use Rattle.scheduling.proofs.Sets.{Empty, top, _less_, less-in, with-in}
 use Rattle.scheduling.proofs.Processing.{processing-less, processing-mono, processing-empty}
-use Rattle.scheduling.proofs.Suffixes.{suffix, suffix-in, suffix-out, suffix-end, by-rank, cover, attaining}
+use Rattle.scheduling.proofs.Suffixes.{suffix, onward-in, onward-out, suffix-end, after, cover, attaining}
 
 module _ (J : Tasks natural) (T rank : ℕ → ℕ) (rk : ByEarliest J T rank) (Θ : TaskSet) where
   module _ (i c : ℕ) where
@@ -52,8 +52,10 @@ module _ (J : Tasks natural) (T rank : ℕ → ℕ) (rk : ByEarliest J T rank) (
       | no q ↦ absurd (omega (
         arith,
         first (omega arith),
-        by-rank J T rank rk Θ j m (jm .small) (mm .small) (omega arith),
+        after J T rank rk Θ (rank j) m (mm .small) (omega arith),
+        ap (J .earliest) (rk .there j (jm .small)),
         e .bounds (J .earliest m + processing J (suffix J T rank rk Θ m)) (suffix-end J T rank rk Θ m mm),
-        processing-mono J (suffix J T rank rk Θ m) (suffix J T rank rk Θ j) (λ k h. let u = suffix-in J T rank rk Θ m k (h .mem) in suffix-out J T rank rk Θ j k (omega (arith, u .0)) (u .1)),
+        processing-mono J (suffix J T rank rk Θ m) (suffix J T rank rk Θ j)
+            (λ k h. let u = onward-in J T rank rk Θ (rank m) k (h .mem) in onward-out J T rank rk Θ (rank j) k (omega (arith, u .0)) (u .1)),
       ))
     ]
