@@ -1,2 +1,3 @@
 pub mod Recurrence
 pub mod RecordArrays
+pub mod RunningValues

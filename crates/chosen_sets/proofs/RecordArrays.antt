@@ -41,3 +41,17 @@ module _ (r : DisjunctivePropagator) (es ls : List ℤ) (a : AcceptedInput r es 
     at = λ k q. ap (λ (o : List ℕ). getD o k 0) l ∙ moments-at r es ls a long ls (a .counts .latest) k q;
     fits = λ k q. omega (arith, limits k q .2);
   }
+
+-- another set of the tasks stands in the arrays by its own flags
+pub choosing : {J : Tasks natural} {Ω Ω′ : TaskSet} {n : ℕ} {chosen chosen′ : List Bool} {est durations : List ℕ} → HeldSet J Ω n chosen est durations
+    → ((k : ℕ) → k < n → getD chosen′ k false ≡ Ω′ k) → HeldSet J Ω′ n chosen′ est durations
+choosing h member = record {
+  proper = h .proper;
+  count = h .count;
+  few = h .few;
+  member = member;
+  start = h .start;
+  lasts = h .lasts;
+  early = h .early;
+  sum = h .sum;
+}

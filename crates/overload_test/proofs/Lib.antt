@@ -1,4 +1,3 @@
-pub mod Ects
 pub mod ReadTasks
 pub mod Answers
 pub mod Fewest

@@ -35,7 +35,6 @@ use Rattle.chosen_sets.proofs.Recurrence.{limited, front-is}
 use Rattle.chosen_sets.proofs.RecordArrays.{held as in-arrays, late}
 use Rattle.overload_test.specs.ReadTasks.{byCompletion, read, overloadsAt, answerFrom, answerOf}
 use Rattle.overload_test.specs.ReadArrays.{noTask, Readable}
-use Rattle.overload_test.proofs.Ects.{tree-ect}
 use Rattle.overload_test.proofs.ReadTasks.{by-completion, read-new, read-old, read-none}
 use Rattle.integers.proofs.FilledLists.{getD-fresh}
 use Rattle.trees.proofs.RootAnswers as roots
@@ -110,7 +109,7 @@ module _ {inner n : ℕ} {words mapping tasks est lct durations : List ℕ} (f :
 
     -- the test, by what the tree answers
     pub test-is : {now : List ℕ} (t : Shows (k + 1) now) (v : Option ℕ) → v ≡ ect (f .J) (byEarliest (f .J)) (t .leaves) → exceeds v (getD lct i 0) ≡ overloadsAt J k
-    test-is t v is = ap₂ exceeds (is ∙ tree-ect J (f .held .proper) (t .leaves) (read J (k + 1)) noTask (t .shape) ∙ ap (λ (m : ℕ). ectOf J (read J m)) (add-one k))
+    test-is t v is = ap₂ exceeds (is ∙ roots.ect-of J (f .held .proper) estOrder (by-earliest J) (t .leaves) (read J (k + 1)) noTask (t .shape) ∙ ap (λ (m : ℕ). ectOf J (read J m)) (add-one k))
         (f .ends i small ∙ ap (completion J) is-next)
 
 -- How the arrays come to hold the tasks -------------------------------------------------------------------------------------------

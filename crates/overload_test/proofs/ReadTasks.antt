@@ -61,7 +61,7 @@ module _ (J : Tasks natural) where
   pub read-place : (k j : ℕ) → read J k j ≡ true → place j < k
   read-place k j h = front-place (byCompletion J) (permutes .distinct) k j h .1
 
-  read-small : (k j : ℕ) → read J k j ≡ true → j < J .count
+  pub read-small : (k j : ℕ) → read J k j ≡ true → j < J .count
   read-small k j h = permutes .below j (front-place (byCompletion J) (permutes .distinct) k j h .0)
 
   -- one task more

@@ -48,41 +48,36 @@ module _ {A : Type 0} (join : A → A → A) where
   over-join leaf h a = refl
 
   -- `Right`, by height and node, makes a node the join of its children and holds of them too: where it holds, a node is the one over its leaves
-  pub over-is : (m : ℕ) (at : ℕ → A) (Right : ℕ → ℕ → Type 0)
-      → ((h i : ℕ) → HasHeight m (suc h) i → Right (suc h) i → (at i ≡ join (at (2 * i + 1)) (at (2 * i + 2))) × Right h (2 * i + 1) × Right h (2 * i + 2))
-      → (h i : ℕ) → HasHeight m h i → Right h i → at i ≡ nodeOver join (leavesOf m at) h (leftmost h i - m)
-  over-is m at Right w zero i s q =
-      let z : i ≡ m + (leftmost 0 i - m) = omega (arith, s .from, leftmost-leaf i) in
-      ap at z ∙ sym (over-leaf (leavesOf m at) (leftmost 0 i - m))
-  over-is m at Right w (suc h) i s q =
-      w h i s q .0
-      ∙ ap₂ join (over-is m at Right w h (2 * i + 1) (left-height m h i s) (w h i s q .1) ∙ ap (nodeOver join (leavesOf m at) h) left)
-      (over-is m at Right w h (2 * i + 2) (right-height m h i s) (w h i s q .2) ∙ ap (nodeOver join (leavesOf m at) h) right)
-      ∙ sym (over-join (leavesOf m at) h (leftmost (suc h) i - m))
-    where
-      left : leftmost h (2 * i + 1) - m ≡ leftmost (suc h) i - m
-      left = omega (arith, leftmost-left h i)
-
-      right : leftmost h (2 * i + 2) - m ≡ (leftmost (suc h) i - m) + width h
-      right = omega (arith, leftmost-right h i, s .from)
+  module _ (m : ℕ) (at : ℕ → A) (Right : ℕ → ℕ → Type 0)
+      (w : (h i : ℕ) → HasHeight m (suc h) i → Right (suc h) i → (at i ≡ join (at (2 * i + 1)) (at (2 * i + 2))) × Right h (2 * i + 1) × Right h (2 * i + 2)) where
+    pub over-is : (h i : ℕ) → HasHeight m h i → Right h i → at i ≡ nodeOver join (leavesOf m at) h (leftmost h i - m)
+    over-is zero i s q =
+        let z : i ≡ m + (leftmost 0 i - m) = omega (arith, s .from, leftmost-leaf i) in
+        ap at z ∙ sym (over-leaf (leavesOf m at) (leftmost 0 i - m))
+    over-is (suc h) i s q =
+        let left : leftmost h (2 * i + 1) - m ≡ leftmost (suc h) i - m = omega (arith, leftmost-left h i) in
+        let right : leftmost h (2 * i + 2) - m ≡ (leftmost (suc h) i - m) + width h = omega (arith, leftmost-right h i, s .from) in
+        let (here, l, r) = w h i s q in
+        here ∙ ap₂ join (over-is h (2 * i + 1) (left-height s) l ∙ ap (nodeOver join (leavesOf m at) h) left)
+        (over-is h (2 * i + 2) (right-height s) r ∙ ap (nodeOver join (leavesOf m at) h) right) ∙ sym (over-join (leavesOf m at) h (leftmost (suc h) i - m))
 
   -- every node of a tree
   pub node-is : (m : ℕ) (at : ℕ → A) → TreeOf join m (leavesOf m at) at → (h i : ℕ) → HasHeight m h i → at i ≡ nodeOver join (leavesOf m at) h (leftmost h i - m)
-  node-is m at t h i s = over-is m at (λ h i. Unit {0}) (λ g j r q. (t .joins j (inner-height m g j r), tt, tt)) h i s tt
-
-  pub root-is : (m H : ℕ) (at : ℕ → A) → m + 1 ≡ width H → TreeOf join m (leavesOf m at) at → at 0 ≡ nodeOver join (leavesOf m at) H 0
-  root-is m H at e t = node-is m at t H 0 (root-height m H e) ∙ ap (nodeOver join (leavesOf m at) H) (root-first m H e)
+  node-is m at t h i s = over-is m at (λ h i. Unit {0}) (λ g j r q. (t .joins j (inner-height r), tt, tt)) h i s tt
 
   -- a tree over leaves is one over its own leaves
-  pub own-leaves : (m : ℕ) (leaf at : ℕ → A) → TreeOf join m leaf at → leavesOf m at ≡ leaf
-  own-leaves m leaf at t = fun-ext (t .leaves)
+  pub own-leaves : {m : ℕ} {leaf at : ℕ → A} → TreeOf join m leaf at → leavesOf m at ≡ leaf
+  own-leaves t = fun-ext (t .leaves)
+
+  pub own-tree : {m : ℕ} {leaf at : ℕ → A} → TreeOf join m leaf at → TreeOf join m (leavesOf m at) at
+  own-tree t = record { joins = t .joins; leaves = λ k. refl }
+
+  pub root-is : {m : ℕ} (H : ℕ) {leaf at : ℕ → A} → m + 1 ≡ width H → TreeOf join m leaf at → at 0 ≡ nodeOver join leaf H 0
+  root-is {m} H {at = at} e t = node-is m at (own-tree t) H 0 (root-height m H e) ∙ ap₂ (λ (f : ℕ → A). nodeOver join f H) (own-leaves t) (root-first m H e)
 
   -- a tree over leaves of which one was put is one over the old ones, but for that one
   pub put-tree : {m : ℕ} (at : ℕ → A) {at′ at″ : ℕ → A} (place : ℕ) (n : A) → at′ ≡ changed at (m + place) n → TreeOf join m (leavesOf m at′) at″ → TreeOf join m (changed (leavesOf m at) place n) at″
   put-tree {m} at {at″ = at″} place n e = subst (λ (leaf : ℕ → A). TreeOf join m leaf at″) (ap (leavesOf m) e ∙ changed-leaf m at place n)
-
-  pub own-tree : (m : ℕ) (leaf at : ℕ → A) → TreeOf join m leaf at → TreeOf join m (leavesOf m at) at
-  own-tree m leaf at t = record { joins = t .joins; leaves = λ k. refl }
 
 -- a relation that holds between the leaves of two trees, and that joins keep, holds between their nodes
 pub over-both : {A B : Type 0} {join : A → A → A} {join′ : B → B → B} (R : A → B → Type 0) → ((l r : A) (l′ r′ : B) → R l l′ → R r r′ → R (join l r) (join′ l′ r′)) → (leaf : ℕ → A) (leaf′ : ℕ → B)
@@ -92,6 +87,14 @@ over-both {join = join} {join′} R keeps leaf leaf′ each (suc h) a = rw (over
     (keeps _ _ _ _ (over-both R keeps leaf leaf′ each h a) (over-both R keeps leaf leaf′ each h (a + width h)))
 
 -- bounds -----------------------------------------------------------------------------------------------------------------------
+
+module _ {A : Type 0} {size : A → ℕ} {Fair : A → Type 0} where
+  pub leaf-fits : (leaf : ℕ → A) → Bounded size Fair leaf → (k : ℕ) → Fits size Fair (leaf k)
+  leaf-fits leaf b k = record { fair = b .fair k; small = omega (arith, b .small (suc k), total-suc (λ j. size (leaf j)) k) }
+
+  -- the leaf put fits
+  pub put-fits : {join : A → A → A} {m : ℕ} {at : ℕ → A} {place : ℕ} {n : A} → CanPut size Fair join m at place n → Fits size Fair n
+  put-fits {m = m} {at} {place} {n} t = rw (changed-here (leavesOf m at) place n) at (leaf-fits (changed (leavesOf m at) place n) (t .bounded) place)
 
 module _ {A : Type 0} {size : A → ℕ} {Fair : A → Type 0} {join : A → A → A} (law : Additive size Fair join) where
   over-fair : (leaf : ℕ → A) → Bounded size Fair leaf → (h a : ℕ) → Fair (nodeOver join leaf h a)
@@ -141,7 +144,7 @@ module _ {A : Type 0} {size : A → ℕ} {Fair : A → Type 0} {join : A → A �
     child-fits : (k : ℕ) → p < k → k ≤ 2 * m → Fits size Fair (at k)
     child-fits k q r =
         let s = height-of m (c .height) (c .complete) k k (omega arith) r in
-        rw (over-is join m at (λ h j. p < j) (λ h j s q. (c .joins j (inner-height m h j s) (after j q), omega arith, omega arith)) (s .0) k (s .1) q)
+        rw (over-is join m at (λ h j. p < j) (λ h j s q. (c .joins j (inner-height s) (after j q), omega arith, omega arith)) (s .0) k (s .1) q)
         (over-fits (leavesOf m at) (c .bounded) (s .0) (leftmost (s .0) k - m))
 
     turn-at : Turn m at p
@@ -236,11 +239,6 @@ module _ {A : Type 0} {size : A → ℕ} {Fair : A → Type 0} {join : A → A �
       during = calculated (c .during) (omega (arith, c .inside)) (λ j r. omega arith) (λ j. i - 1 ≤ j) (λ j s. (λ ne. omega arith, λ z. omega arith, λ z. omega arith));
       inside = omega (arith, c .inside);
     })
-
-  -- the leaf put fits
-  pub put-fits : {m : ℕ} {at : ℕ → A} {place : ℕ} {n : A} → CanPut size Fair join m at place n → Fits size Fair n
-  put-fits {m} {at} {place} {n} t = rw (over-leaf join (changed (leavesOf m at) place n) place ∙ changed-here (leavesOf m at) place n) at
-      (over-fits (changed (leavesOf m at) place n) (t .bounded) 0 place)
 
 -- a leaf changed, and the ancestors not yet
 pub needs-upheap : {A : Type 0} {size : A → ℕ} {Fair : A → Type 0} {join : A → A → A} {m : ℕ} {at at′ : ℕ → A} {place : ℕ} {n : A} → CanPut size Fair join m at place n → at′ ≡ changed at (m + place) n

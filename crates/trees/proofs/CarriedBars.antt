@@ -1,5 +1,5 @@
 -- A parent's children, of which one is carried up and the other is read: whichever is carried, both are nodes of the array.
-use mathlib.Core.Path.{_≡_, sym, ap, ap₂, _∙_}
+use mathlib.Core.Path.{_≡_, sym, ap, _∙_}
 use mathlib.Core.Bool.{Bool, true, false, cond}
 use mathlib.Core.Logic.{⊎-elim}
 use Prim.Native.Nat.{ℕ, _+_, _*_, _-_, _/_, _%_, _<_}
@@ -9,25 +9,15 @@ use borrow.Author.Tests.{eqb-true, eqb-false}
 use Rattle.integers.proofs.Bools.{bool}
 use Rattle.trees.specs.declared.theta_lambda_node.Node.{Node}
 use Rattle.trees.specs.declared.theta_node.Node as plain
-use Rattle.trees.specs.NodeBounds.{Fair, size, Fits}
-use Rattle.trees.specs.Nodes.{joinOf}
 use Rattle.trees.specs.Puts.{whitePart, Liftable}
-
--- the node with the ect and the sum of w, and the bars of x
-abbrev withBars : plain.Node → Node → Node
-withBars w x = record {
-  ect = w .ect;
-  «sum_of_processing_times» = w .«sum_of_processing_times»;
-  «ect_bar» = x .«ect_bar»;
-  «sum_of_processing_times_bar» = x .«sum_of_processing_times_bar»;
-}
+use Rattle.trees.proofs.NodeWords.{same}
 
 -- self with the bars of one of two nodes is that node, where both have the same ect and sum
 pub bars-of : (first : Bool) (self a b : Node) {x y : ℕ} → x ≡ cond first (a .«ect_bar») (b .«ect_bar»)
     → y ≡ cond first (a .«sum_of_processing_times_bar») (b .«sum_of_processing_times_bar») → whitePart self ≡ whitePart (cond first a b)
     → record { ect = self .ect; «sum_of_processing_times» = self .«sum_of_processing_times»; «ect_bar» = x; «sum_of_processing_times_bar» = y } ≡ cond first a b
-bars-of true self a b ex ey e = rw (ex, ey) (ap (λ (w : plain.Node). withBars w a) e)
-bars-of false self a b ex ey e = rw (ex, ey) (ap (λ (w : plain.Node). withBars w b) e)
+bars-of true self a b ex ey e = same _ a (ap (λ (w : plain.Node). w .ect) e) (ap (λ (w : plain.Node). w .«sum_of_processing_times») e) ex ey
+bars-of false self a b ex ey e = same _ b (ap (λ (w : plain.Node). w .ect) e) (ap (λ (w : plain.Node). w .«sum_of_processing_times») e) ex ey
 
 -- a node with an even number is its parent's right child
 even : {i : ℕ} → 0 < i → (i % 2 ≡ 1 → ⊥) → i ≡ 2 * ((i - 1) / 2) + 2
@@ -35,30 +25,15 @@ even {i} q n = let z : i % 2 ≡ 0 = omega (arith, n) in let h : i ≡ 2 * (i / 
 
 -- node i is n and its sibling s: they are the parent's children, n the left one where i is odd
 module _ {at : ℕ → Node} {i : ℕ} {n : Node} (c : Liftable at i n) {s : Node} (es : s ≡ at (i + 2 * (i % 2) - 1)) where
-  pub left-is : cond (eqb (i % 2) 1) n s ≡ at (2 * ((i - 1) / 2) + 1)
-  left-is = ⊎-elim
-      (λ y. rw y (c .is ∙ ap at (omega (arith, eqb-true (i % 2) 1 y))))
-      (λ y. rw y (es ∙ ap at (omega (arith, even (c .not-root) (eqb-false (i % 2) 1 y)))))
-      (bool (eqb (i % 2) 1))
-
-  pub right-is : cond (eqb (i % 2) 1) s n ≡ at (2 * ((i - 1) / 2) + 2)
-  right-is = ⊎-elim
-      (λ y. rw y (es ∙ ap at (omega (arith, eqb-true (i % 2) 1 y))))
-      (λ y. rw y (c .is ∙ ap at (even (c .not-root) (eqb-false (i % 2) 1 y))))
+  sides : (cond (eqb (i % 2) 1) n s ≡ at (2 * ((i - 1) / 2) + 1)) × (cond (eqb (i % 2) 1) s n ≡ at (2 * ((i - 1) / 2) + 2))
+  sides = ⊎-elim
+      (λ y. let odd = eqb-true (i % 2) 1 y in rw y (c .is ∙ ap at (omega (arith, odd)), es ∙ ap at (omega (arith, odd))))
+      (λ y. let right = even (c .not-root) (eqb-false (i % 2) 1 y) in rw y (es ∙ ap at (omega (arith, right)), c .is ∙ ap at right))
       (bool (eqb (i % 2) 1))
 
   -- The nodes read at the children's places are the children once they have the bars of n and s.
   module _ {p l r : ℕ} (is-up : p ≡ (i - 1) / 2) (is-left : l ≡ 2 * p + 1) (is-right : r ≡ 2 * p + 2) {x y x′ y′ : Node} (ex : x ≡ at l) (ey : y ≡ at r)
       (with-x : whitePart x ≡ whitePart (cond (eqb (i % 2) 1) n s) → x′ ≡ cond (eqb (i % 2) 1) n s)
       (with-y : whitePart y ≡ whitePart (cond (eqb (i % 2) 1) s n) → y′ ≡ cond (eqb (i % 2) 1) s n) where
-    left-node : x′ ≡ at (2 * ((i - 1) / 2) + 1)
-    left-node = with-x (ap whitePart (ex ∙ ap at (omega arith) ∙ sym left-is)) ∙ left-is
-
-    right-node : y′ ≡ at (2 * ((i - 1) / 2) + 2)
-    right-node = with-y (ap whitePart (ey ∙ ap at (omega arith) ∙ sym right-is)) ∙ right-is
-
-    pub both-fit : Fits size Fair x′ × Fits size Fair y′
-    both-fit = (rw left-node (c .left), rw right-node (c .right))
-
-    pub joined-is : joinOf x′ y′ ≡ joinOf (at (2 * ((i - 1) / 2) + 1)) (at (2 * ((i - 1) / 2) + 2))
-    joined-is = ap₂ joinOf left-node right-node
+    pub children : (x′ ≡ at (2 * ((i - 1) / 2) + 1)) × (y′ ≡ at (2 * ((i - 1) / 2) + 2))
+    children = (with-x (ap whitePart (ex ∙ ap at (omega arith) ∙ sym (sides .0))) ∙ sides .0, with-y (ap whitePart (ey ∙ ap at (omega arith) ∙ sym (sides .1))) ∙ sides .1)

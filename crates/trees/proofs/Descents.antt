@@ -1,11 +1,11 @@
 -- The two searches as one: the step of each at a node, and what it says of the bar. Either the test of a child held, or none did.
 use mathlib.Core.Path.{_≡_, refl, sym, _∙_}
-use mathlib.Core.Bool.{Bool, true, false, _&&_, not}
+use mathlib.Core.Bool.{true, false, _&&_, not}
 use mathlib.Core.Logic.{inl, inr}
 use Prim.Native.Nat.{ℕ, _+_}
 use native.Mathlib.Omega.{arith}
 use lib.Dec.{eqb}
-use borrow.Author.Tests.{eqb-true, eqb-false, eq-eqb}
+use borrow.Author.Tests.{eqb-true, eqb-false, eq-eqb, not-false}
 use Rattle.integers.proofs.Bools.{bool, clash, and-true, and-false}
 use Rattle.trees.specs.declared.theta_lambda_node.Node.{Node}
 use Rattle.trees.specs.declared.theta_lambda_node.PDescent.{PDescent}
@@ -52,10 +52,6 @@ leaf-step ects n = refl
 abbrev pub TestFailed : Node → ℕ → ℕ → Type 0
 TestFailed child value this = value ≡ this → (child .«ect_bar» ≡ 0) × (child .«sum_of_processing_times_bar» ≡ 0)
 
-not-not : (b : Bool) → not b ≡ false → b ≡ true
-not-not true h = refl
-not-not false h = clash refl h
-
 tested-yes : (child : Node) (value this : ℕ) → tested child value this ≡ true → value ≡ this
 unfolding tested
 tested-yes child value this t = eqb-true value this ((and-true (not (isEmpty child)) (eqb value this) t) .1)
@@ -86,7 +82,7 @@ bar-empty n f = elim (bool (eqb (n .«sum_of_processing_times_bar») 0)) [
 tested-no : (child : Node) (value this : ℕ) → tested child value this ≡ false → TestFailed child value this
 unfolding tested
 tested-no child value this t e = elim (and-false (not (isEmpty child)) (eqb value this) t)
-    [ inl u ↦ empty-bars child (not-not (isEmpty child) u) | inr u ↦ absurd (eqb-false value this u e) ]
+    [ inl u ↦ empty-bars child (not-false (isEmpty child) u) | inr u ↦ absurd (eqb-false value this u e) ]
 
 module _ (n l r : Node) where
   -- the value of a bar with its gray task on the left, and of one with its gray task in the sum on the right

@@ -98,8 +98,7 @@ within-bound start m (some v) r = le-ltb m v (omega arith)
 
 -- a raised start is not below the start
 pub raised-least : (start : ℕ) (o : Option ℕ) → start ≤ raisedTo start o
-raised-least start none = omega arith
-raised-least start (some v) = omega arith
+raised-least = raised-from
 
 -- raised from 0, it is the word that codes the ect
 pub raised-decoded : (v : ℕ) → raisedTo 0 (decoded v) ≡ v

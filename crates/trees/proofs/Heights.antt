@@ -7,7 +7,7 @@ use native.Mathlib.Numerals.{add-one}
 use native.Mathlib.Decide.{decLt, ℕ-discrete}
 use lib.Dec.{ltb}
 use borrow.Author.Tests.{ltb-true, ltb-false}
-use Rattle.integers.specs.Limits.{INNER}
+use Rattle.integers.specs.Limits.{INNER, TASKS}
 use Rattle.integers.proofs.Bools.{bool}
 use Rattle.trees.specs.Shapes.{width, heightFrom, heightFor}
 use Rattle.trees.specs.Arrays.{Sized, leftmost, HasHeight}
@@ -57,16 +57,16 @@ height-enough n (suc f) h q = elim (decLt (width h) n)
 pub enough : (n : ℕ) → n ≤ width (heightFor n)
 enough n = height-enough n n 0 (omega (arith, once))
 
+-- a tree that is less wide than another is no wider one level higher
+level-more : (h m : ℕ) → width h < width m → width (suc h) ≤ width m
+level-more h zero q = absurd (omega (arith, once, width-some h))
+level-more zero (suc m) q = omega (arith, once, twice 0, twice m, width-some m)
+level-more (suc h) (suc m) q = omega (arith, twice (suc h), twice h, twice m, level-more h m (omega (arith, twice h, twice m)))
+
 -- six levels are enough for the leaves of the largest tree
 pub low : (h : ℕ) → width h ≤ INNER → width (suc h) ≤ INNER + 1
 unfolding width
-low zero q = omega arith
-low (suc zero) q = omega arith
-low (suc (suc zero)) q = omega arith
-low (suc (suc (suc zero))) q = omega arith
-low (suc (suc (suc (suc zero)))) q = omega arith
-low (suc (suc (suc (suc (suc zero))))) q = omega arith
-low (suc (suc (suc (suc (suc (suc h)))))) q = absurd (omega (arith, width-some h))
+low h q = level-more h 6 (omega arith)
 
 height-low : (n f h : ℕ) → n ≤ INNER + 1 → width h ≤ INNER + 1 → width (heightFrom n f h) ≤ INNER + 1
 height-low n zero h q r = rw (height-zero n h) r
@@ -77,9 +77,12 @@ height-low n (suc f) h q r = elim (decLt (width h) n)
 pub room : (n : ℕ) → n ≤ INNER + 1 → width (heightFor n) ≤ INNER + 1
 room n q = height-low n n 0 q (omega (arith, once))
 
+pub few-inner : {n m : ℕ} → n ≤ TASKS → m + 1 ≡ width (heightFor n) → m ≤ INNER
+few-inner {n} q e = omega (arith, room n (omega arith))
+
 -- the inner nodes of a tree of the size for n leaves
-pub sized : (n inner h : ℕ) → Sized n inner h → inner + 1 ≡ width (heightFor n)
-sized n inner h s = s .complete ∙ ap width (s .least)
+pub sized : {n inner h k : ℕ} → Sized n inner h → k ≡ n → inner + 1 ≡ width (heightFor k)
+sized s z = s .complete ∙ ap width (s .least) ∙ sym (ap (λ (n : ℕ). width (heightFor n)) z)
 
 -- positions --------------------------------------------------------------------------------------------------------------------
 
@@ -118,7 +121,7 @@ pub root-first : (m h : ℕ) → m + 1 ≡ width h → leftmost h 0 - m ≡ 0
 root-first m h e = omega (arith, leftmost-root h)
 
 -- an inner node and its children
-module _ (m h i : ℕ) (s : HasHeight m (suc h) i) where
+module _ {m h i : ℕ} (s : HasHeight m (suc h) i) where
   grows : (h i : ℕ) → 2 * i + 3 ≤ leftmost (suc h) i + width (suc h)
   grows zero i = omega (arith, leftmost-left 0 i, leftmost-leaf (2 * i + 1), twice 0, once)
   grows (suc h) i = omega (arith, leftmost-left (suc h) i, grows h (2 * i + 1), twice (suc h))
@@ -139,13 +142,13 @@ leaf-at m i s = omega (arith, s .from, leftmost-leaf i)
 -- inside the array
 pub height-inside : (m h i : ℕ) → HasHeight m h i → i ≤ 2 * m
 height-inside m zero i s = omega (arith, s .to, leftmost-leaf i, once)
-height-inside m (suc h) i s = omega (arith, inner-height m h i s)
+height-inside m (suc h) i s = omega (arith, inner-height s)
 
 -- a child has a height where its parent has one: that of the parent, less one
 below : (m p i : ℕ) → p < m → (i ≡ 2 * p + 1) ⊎ (i ≡ 2 * p + 2) → (h : ℕ) × HasHeight m h p → (h : ℕ) × HasHeight m h i
 below m p i q side (zero, s) = absurd (omega (arith, leaf-at m p s))
-below m p i q (inl z) (suc h, s) = (h, rw z (left-height m h p s))
-below m p i q (inr z) (suc h, s) = (h, rw z (right-height m h p s))
+below m p i q (inl z) (suc h, s) = (h, rw z (left-height s))
+below m p i q (inr z) (suc h, s) = (h, rw z (right-height s))
 
 side : (i : ℕ) → (i ≡ 0 → ⊥) → (i ≡ 2 * ((i - 1) / 2) + 1) ⊎ (i ≡ 2 * ((i - 1) / 2) + 2)
 side i q = elim (ℕ-discrete i (2 * ((i - 1) / 2) + 1)) [ yes z ↦ inl z | no z ↦ inr (omega arith) ]

@@ -1,7 +1,6 @@
 pub mod Ects
 pub mod Joins
 pub mod Descents
-pub mod GrayLeaves
 pub mod Heights
 pub mod ArrayTrees
 pub mod WhiteParts

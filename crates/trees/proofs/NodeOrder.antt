@@ -17,6 +17,7 @@ use Rattle.trees.specs.Leaves as leaves
 use Rattle.trees.specs.Leaves.{Leaf, empty, gray, inTheta, whiteAt, leafNode, startAt, durationAt, root}
 use Rattle.trees.proofs.Ects.{raised-decoded, within-bound}
 use Rattle.trees.proofs.ArrayTrees.{over-both}
+use Rattle.trees.proofs.RangeNodes.{over-later}
 
 pub record AtMost (m n : Node) : Type 0 where
   pub ect : m .ect ≤ n .ect
@@ -24,18 +25,9 @@ pub record AtMost (m n : Node) : Type 0 where
   pub ect-bar : m .«ect_bar» ≤ n .«ect_bar»
   pub sum-bar : m .«sum_of_processing_times_bar» ≤ n .«sum_of_processing_times_bar»
 
--- the values with a gray task are at least those without
-pub record UnderBars (n : Node) : Type 0 where
-  pub ect : n .ect ≤ n .«ect_bar»
-  pub sum : n .«sum_of_processing_times» ≤ n .«sum_of_processing_times_bar»
-
 join-most : (l l′ r r′ : Node) → AtMost l l′ → AtMost r r′ → AtMost (joinOf l r) (joinOf l′ r′)
 unfolding joinOf
 join-most l l′ r r′ a b = record { ect = omega arith; sum = omega arith; ect-bar = omega arith; sum-bar = omega arith }
-
-join-under : (l r : Node) → UnderBars l → UnderBars r → UnderBars (joinOf l r)
-unfolding joinOf
-join-under l r a b = record { ect = omega arith; sum = omega arith }
 
 -- leaves
 same-most : (n : Node) → AtMost n n
@@ -46,21 +38,16 @@ gray-most leaves.empty e p z = clash z refl
 gray-most leaves.white e p z = record { ect = omega arith; sum = omega arith; ect-bar = omega arith; sum-bar = omega arith }
 gray-most leaves.gray e p z = clash z refl
 
-leaf-under : (c : Leaf) (e p : ℕ) → UnderBars (leafNode c e p)
-leaf-under leaves.empty e p = record { ect = omega arith; sum = omega arith }
-leaf-under leaves.white e p = record { ect = omega arith; sum = omega arith }
-leaf-under leaves.gray e p = record { ect = omega arith; sum = omega arith }
-
 module _ (J : Tasks natural) (estOrder : List ℕ) (ls : List Leaf) where
-  root-under : UnderBars (root J estOrder ls)
+  -- the root's ect_bar is at least its ect
+  pub root-later : root J estOrder ls .ect ≤ root J estOrder ls .«ect_bar»
   unfolding root
-  root-under = over-both {join′ = joinOf} (λ n _. UnderBars n) (λ l r _ _. join-under l r) (leaves.leaves J estOrder ls) (leaves.leaves J estOrder ls)
-      (λ k. leaf-under (getD ls k empty) (startAt J estOrder k) (durationAt J estOrder k)) (heightFor (J .count)) 0
+  root-later = over-later (λ j. getD ls j empty) (startAt J estOrder) (durationAt J estOrder) (heightFor (J .count)) 0
 
   -- an ect_bar that is not past a moment: neither is the ect
   pub ect-within : (m : ℕ) → raisedTo 0 (leaves.ect-bar J estOrder ls) ≤ m → exceeds (leaves.ect J estOrder ls) m ≡ false
   ect-within m q = within-bound 0 m (leaves.ect J estOrder ls)
-      (omega (arith, q, raised-decoded (root J estOrder ls .«ect_bar»), raised-decoded (root J estOrder ls .ect), root-under .ect))
+      (omega (arith, q, raised-decoded (root J estOrder ls .«ect_bar»), raised-decoded (root J estOrder ls .ect), root-later))
 
   -- a white leaf turns gray: ect_bar does not rise
   module _ (k : ℕ) (inside : k < length ls) (is-white : whiteAt ls k ≡ true) where
@@ -68,10 +55,10 @@ module _ (J : Tasks natural) (estOrder : List ℕ) (ls : List Leaf) where
     unfolding root
     root-most = over-both AtMost (λ l r l′ r′. join-most l l′ r r′) (leaves.leaves J estOrder (set ls k gray)) (leaves.leaves J estOrder ls) each (heightFor (J .count)) 0
       where
-        each : (j : ℕ) → AtMost (leafNode (getD (set ls k gray) j empty) (startAt J estOrder j) (durationAt J estOrder j)) (leafNode (getD ls j empty) (startAt J estOrder j) (durationAt J estOrder j))
+        each : (j : ℕ) → AtMost (leaves.leaves J estOrder (set ls k gray) j) (leaves.leaves J estOrder ls j)
         each j = elim (ℕ-discrete j k) [
           | yes z ↦ rw (z, getD-set-same ls k gray empty inside) (gray-most (getD ls k empty) (startAt J estOrder k) (durationAt J estOrder k) is-white)
-          | no z ↦ rw (getD-set-other ls k j gray empty z) (same-most (leafNode (getD ls j empty) (startAt J estOrder j) (durationAt J estOrder j)))
+          | no z ↦ rw (getD-set-other ls k j gray empty z) (same-most (leaves.leaves J estOrder ls j))
         ]
 
     pub ect-bar-no-later : raisedTo 0 (leaves.ect-bar J estOrder (set ls k gray)) ≤ raisedTo 0 (leaves.ect-bar J estOrder ls)

@@ -30,8 +30,8 @@ sets-in (v ∷ vs) l i j zero e q h = let z : j ≡ i = omega arith in rw z (set
 sets-in (v ∷ vs) l i j (suc k) e q h = sets-in vs (set l i v) (suc i) j k (omega arith) (omega arith) (omega (arith, length-set l i v))
 
 -- nodes of the same numbers
-same : (m n : Node) → m .ect ≡ n .ect → m .«sum_of_processing_times» ≡ n .«sum_of_processing_times» → m .«ect_bar» ≡ n .«ect_bar» → m .«sum_of_processing_times_bar» ≡ n .«sum_of_processing_times_bar»
-    → m ≡ n
+pub same : (m n : Node) → m .ect ≡ n .ect → m .«sum_of_processing_times» ≡ n .«sum_of_processing_times» → m .«ect_bar» ≡ n .«ect_bar»
+    → m .«sum_of_processing_times_bar» ≡ n .«sum_of_processing_times_bar» → m ≡ n
 same m n p q r s = λ t. record { ect = p t; «sum_of_processing_times» = q t; «ect_bar» = r t; «sum_of_processing_times_bar» = s t }
 
 plain-same : (m n : plain.Node) → m .ect ≡ n .ect → m .«sum_of_processing_times» ≡ n .«sum_of_processing_times» → m ≡ n

@@ -1,12 +1,12 @@
 -- The node over a range of leaves has the values of the range.
-use mathlib.Core.Path.{_≡_, refl, sym, ap}
+use mathlib.Core.Path.{_≡_, refl, sym, ap, _∙_}
 use mathlib.Core.Bool.{Bool, false}
 use mathlib.Core.Logic.{inl, inr}
 use Prim.Native.Nat.{ℕ, zero, suc, _+_, _-_, _≤_}
 use native.Mathlib.Omega.{arith}
 use native.Mathlib.Nat.{add-zero}
 use Rattle.integers.proofs.Bools.{bool}
-use Rattle.scheduling.proofs.LeafRanges as leafRange
+use Rattle.scheduling.proofs.LeafRanges as range
 use Rattle.trees.specs.declared.theta_lambda_node.Node.{Node}
 use Rattle.trees.specs.Nodes.{joinOf}
 use Rattle.trees.specs.Shapes.{width, nodeOver}
@@ -16,10 +16,10 @@ use Rattle.trees.proofs.ArrayTrees.{over-leaf, over-join}
 
 -- a leaf more that is not white
 pub not-white : (w g : ℕ → Bool) (e p : ℕ → ℕ) (a d x : ℕ) → a + d ≡ x → w x ≡ false
-    → (leafRange.sum w g e p a (suc d) ≡ leafRange.sum w g e p a d) × (leafRange.ect w g e p a (suc d) ≡ leafRange.ect w g e p a d)
+    → (range.sum w g e p a (suc d) ≡ range.sum w g e p a d) × (range.ect w g e p a (suc d) ≡ range.ect w g e p a d)
 not-white w g e p a d x z y = elim (bool (g x)) [
-  | inl v ↦ (let l = leafRange.gray w g e p a d x z y v in (l .s, l .t))
-  | inr v ↦ (let l = leafRange.no-leaf w g e p a d x z y v in (l .s, l .t))
+  | inl v ↦ (let l = range.gray w g e p a d x z y v in (l .s, l .t))
+  | inr v ↦ (let l = range.no-leaf w g e p a d x z y v in (l .s, l .t))
 ]
 
 module _ (colour : ℕ → Leaf) (e p : ℕ → ℕ) where
@@ -34,30 +34,27 @@ module _ (colour : ℕ → Leaf) (e p : ℕ → ℕ) where
 
   -- the four values of a node are those of d leaves from a on
   pub record Holds (n : Node) (a d : ℕ) : Type 0 where
-    pub ect : n .ect ≡ leafRange.ect w g e p a d
-    pub sum : n .«sum_of_processing_times» ≡ leafRange.sum w g e p a d
-    pub ect-bar : n .«ect_bar» ≡ leafRange.ect-bar w g e p a d
-    pub sum-bar : n .«sum_of_processing_times_bar» ≡ leafRange.sum-bar w g e p a d
+    pub ect : n .ect ≡ range.ect w g e p a d
+    pub sum : n .«sum_of_processing_times» ≡ range.sum w g e p a d
+    pub ect-bar : n .«ect_bar» ≡ range.ect-bar w g e p a d
+    pub sum-bar : n .«sum_of_processing_times_bar» ≡ range.sum-bar w g e p a d
 
-  pub one : (a : ℕ) (c : Leaf) → colour a ≡ c → Holds (leafNode c (e a) (p a)) a 1
-  one a empty z =
-      let b = leafRange.blank w g e p a in
-      let s = leafRange.no-leaf w g e p a 0 a (add-zero a) (ap inTheta z) (ap inLambda z) in
+  one : (a : ℕ) → range.Values w g e p a 0 0 0 0 0 → (c : Leaf) → colour a ≡ c → Holds (leafNode c (e a) (p a)) a 1
+  one a b empty z =
+      let s = range.no-leaf w g e p a 0 a (add-zero a) (ap inTheta z) (ap inLambda z) in
       record { ect = omega arith; sum = omega arith; ect-bar = omega arith; sum-bar = omega arith }
-  one a white z =
-      let b = leafRange.blank w g e p a in
-      let s = leafRange.white w g e p a 0 a (add-zero a) (ap inTheta z) in
+  one a b white z =
+      let s = range.white w g e p a 0 a (add-zero a) (ap inTheta z) in
       record { ect = omega arith; sum = omega arith; ect-bar = omega arith; sum-bar = omega arith }
-  one a gray z =
-      let b = leafRange.blank w g e p a in
-      let s = leafRange.gray w g e p a 0 a (add-zero a) (ap inTheta z) (ap inLambda z) in
+  one a b gray z =
+      let s = range.gray w g e p a 0 a (add-zero a) (ap inTheta z) (ap inLambda z) in
       record { ect = omega arith; sum = omega arith; ect-bar = omega arith; sum-bar = omega arith }
 
   -- two ranges beside each other
   pub both : (l r : Node) (a b c : ℕ) → Holds l a b → Holds r (a + b) c → Holds (joinOf l r) a (b + c)
   unfolding joinOf
   both l r a b c x y =
-      let j = leafRange.join w g e p a b c in
+      let j = range.join w g e p a b c in
       record {
         ect = rw (x .ect, y .ect, y .sum) (sym (j .ects));
         sum = rw (x .sum, y .sum) (sym (j .sums));
@@ -66,13 +63,19 @@ module _ (colour : ℕ → Leaf) (e p : ℕ → ℕ) where
       }
 
   pub over-holds : (h a : ℕ) → Holds (nodeOver joinOf leaf h a) a (width h)
-  over-holds zero a = rw (over-leaf joinOf leaf a, once) (one a (colour a) refl)
+  over-holds zero a = rw (over-leaf joinOf leaf a, once) (one a (range.blank w g e p a) (colour a) refl)
   over-holds (suc h) a = rw (over-join joinOf leaf h a, twice h)
       (both (nodeOver joinOf leaf h a) (nodeOver joinOf leaf h (a + width h)) a (width h) (width h) (over-holds h a) (over-holds h (a + width h)))
 
-  -- leaves that are empty from n on make no difference
-  pub to-first : (n d : ℕ) → n ≤ d → ((j : ℕ) → n ≤ j → colour j ≡ empty)
-      → (leafRange.sum w g e p 0 d ≡ leafRange.sum w g e p 0 n) × (leafRange.ect w g e p 0 d ≡ leafRange.ect w g e p 0 n) × (leafRange.ect-bar w g e p 0 d ≡ leafRange.ect-bar w g e p 0 n)
-  to-first n d q past =
-      let z : n + (d - n) ≡ d = omega arith in
-      rw z at (leafRange.past w g e p 0 n (d - n) (λ j r. ap inTheta (past j (omega arith))) (λ j r. ap inLambda (past j (omega arith))))
+  -- with a gray task the ect is no earlier
+  pub over-later : (h a : ℕ) → nodeOver joinOf leaf h a .ect ≤ nodeOver joinOf leaf h a .«ect_bar»
+  over-later h a = omega (arith, over-holds h a .ect, over-holds h a .ect-bar, range.bars w g e p a (width h) .later)
+
+  -- leaves that are empty from n on make no difference: a node over all leaves has the values of the first n
+  pub first-hold : (h n : ℕ) → n ≤ width h → ((j : ℕ) → n ≤ j → colour j ≡ empty) → let v = nodeOver joinOf leaf h 0 in
+      (v .«sum_of_processing_times» ≡ range.sum w g e p 0 n) × (v .ect ≡ range.ect w g e p 0 n) × (v .«ect_bar» ≡ range.ect-bar w g e p 0 n)
+  first-hold h n q past =
+      let z : n + (width h - n) ≡ width h = omega arith in
+      let t = rw z at (range.past w g e p 0 n (width h - n) (λ j r. ap inTheta (past j (omega arith))) (λ j r. ap inLambda (past j (omega arith)))) in
+      let v = over-holds h 0 in
+      (v .sum ∙ t .0, v .ect ∙ t .1, v .ect-bar ∙ t .2)

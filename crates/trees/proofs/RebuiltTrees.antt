@@ -1,23 +1,24 @@
 -- Leaves laid before their ancestors are calculated, and the tree that a rebuild then makes of them.
-use mathlib.Core.Path.{_≡_, refl, sym, ap, ap₂, subst, _∙_, fun-ext}
+use mathlib.Core.Path.{_≡_, refl, sym, ap, subst, _∙_, fun-ext}
 use mathlib.Core.List.{List}
-use Prim.Native.Nat.{ℕ, _+_, _≤_, _<_}
+use Prim.Native.Nat.{ℕ, _+_, _<_}
 use native.Mathlib.Omega.{arith}
-use lib.ListN.{length, getD, set, length-set}
-use Rattle.integers.specs.Limits.{INNER, TREEWORDS}
+use lib.ListN.{length, set, length-set}
+use lib.Seq.{getD-set-same}
+use Rattle.integers.specs.Limits.{TREEWORDS}
 use Rattle.scheduling.specs.Scheduling.{natural, Tasks}
 use Rattle.trees.specs.declared.theta_lambda_node.Node.{Node}
 use Rattle.trees.specs.Nodes.{joinOf}
 use Rattle.trees.proofs.Joins.{additive}
-use Rattle.trees.specs.Shapes.{heightFor, nodeOver}
+use Rattle.trees.specs.Shapes.{heightFor}
 use Rattle.trees.specs.Arrays.{changed, leavesOf, TreeOf}
 use Rattle.trees.specs.Words.{nodeAt}
 use Rattle.trees.specs.Puts.{Layable, Laid}
 use Rattle.trees.specs.Leaves as leaves
 use Rattle.trees.specs.Leaves.{Leaf, empty, leafNode, startAt, durationAt}
 use Rattle.trees.specs.Trees.{Limited, IsTree, HasLeaves}
-use Rattle.trees.proofs.Heights.{enough, room}
-use Rattle.trees.proofs.ArrayTrees.{changed-here, changed-leaf, over-leaf, over-fits, whole, DuringRebuild}
+use Rattle.trees.proofs.Heights.{enough, few-inner}
+use Rattle.trees.proofs.ArrayTrees.{changed-leaf, leaf-fits, whole, DuringRebuild}
 use Rattle.trees.proofs.LeafColours.{bounded, coloured}
 
 module _ {J : Tasks natural} {estOrder : List ℕ} (lim : Limited J estOrder) where
@@ -31,23 +32,17 @@ module _ {J : Tasks natural} {estOrder : List ℕ} (lim : Limited J estOrder) wh
     own : leavesOf inner (nodeAt words) ≡ leaves.leaves J estOrder ls
     own = fun-ext (t .nodes)
 
-    small : inner ≤ INNER
-    small = omega (arith, room (J .count) (omega (arith, lim .count)), t .complete)
-
     -- a leaf may get a colour, and then has it
-    pub may-lay : (k : ℕ) → k < J .count → (c : Leaf) {n : Node} → n ≡ leafNode c (startAt J estOrder k) (durationAt J estOrder k) → Layable inner words k n
-    may-lay k q c {n} z = record {
-      fits = rw (z ∙ sym here) (over-fits additive (leaves.leaves J estOrder (set ls k c)) (bounded J estOrder lim (set ls k c) (length-set ls k c ∙ t .colours)) 0 k);
+    pub may-lay : (k : ℕ) → k < J .count → (c : Leaf) {n : Node} → n ≡ leaf-node c k → Layable inner words k n
+    may-lay k q c z = record {
+      fits = rw (z ∙ ap (λ (x : Leaf). leaf-node x k) (sym (getD-set-same ls k c empty (omega (arith, t .colours)))))
+          (leaf-fits (leaves.leaves J estOrder (set ls k c)) (bounded J estOrder lim (set ls k c) (length-set ls k c ∙ t .colours)) k);
       inside = omega (arith, enough (J .count), t .complete);
-      room = small;
+      room = few-inner (lim .count) (t .complete);
       length = t .words-length;
     }
-      where
-        here : nodeOver joinOf (leaves.leaves J estOrder (set ls k c)) 0 k ≡ leafNode c (startAt J estOrder k) (durationAt J estOrder k)
-        here = over-leaf joinOf (leaves.leaves J estOrder (set ls k c)) k ∙ ap (λ (f : ℕ → Node). f k) (coloured ls k (omega (arith, t .colours)) c leaf-node)
-            ∙ changed-here (λ j. leaf-node (getD ls j empty) j) k (leaf-node c k)
 
-    pub was-laid : (k : ℕ) → k < J .count → (c : Leaf) {n : Node} → n ≡ leafNode c (startAt J estOrder k) (durationAt J estOrder k) → {words′ : List ℕ} → Laid inner words words′ k n
+    pub was-laid : (k : ℕ) → k < J .count → (c : Leaf) {n : Node} → n ≡ leaf-node c k → {words′ : List ℕ} → Laid inner words words′ k n
         → HasLeaves J estOrder (set ls k c) inner words′
     was-laid k q c {n} z {words′} u = record {
       nodes = λ j. ap (λ (at : ℕ → Node). at (inner + j)) (u .nodes) ∙ ap (λ (f : ℕ → Node). f j) laid;
@@ -57,7 +52,7 @@ module _ {J : Tasks natural} {estOrder : List ℕ} (lim : Limited J estOrder) wh
     }
       where
         laid : leavesOf inner (changed (nodeAt words) (inner + k) n) ≡ leaves.leaves J estOrder (set ls k c)
-        laid = changed-leaf inner (nodeAt words) k n ∙ ap₂ (λ (f : ℕ → Node) (v : Node). changed f k v) own z ∙ sym (coloured ls k (omega (arith, t .colours)) c leaf-node)
+        laid = changed-leaf inner (nodeAt words) k n ∙ sym (coloured ls k (omega (arith, t .colours)) c leaf-node own z)
 
     -- the inner nodes may be built, and then the words hold the tree
     pub may-rebuild : DuringRebuild additive inner (nodeAt words) (nodeAt words) inner
@@ -68,7 +63,7 @@ module _ {J : Tasks natural} {estOrder : List ℕ} (lim : Limited J estOrder) wh
         bounded = rw own (bounded J estOrder lim ls (t .colours));
         height = heightFor (J .count);
         complete = t .complete;
-        room = small;
+        room = few-inner (lim .count) (t .complete);
       };
       inside = omega arith;
     }

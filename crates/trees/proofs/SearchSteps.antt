@@ -6,13 +6,12 @@ use mathlib.Core.List.{List}
 use mathlib.Core.Option.{Option, some, none}
 use Prim.Native.Nat.{ℕ, zero, suc, _+_, _*_, _-_, _≤_, _<_}
 use native.Mathlib.Omega.{arith}
-use native.Mathlib.Decide.{decLt}
 use lib.Dec.{leb}
 use lib.ListN.{getD}
 use borrow.Author.Needs.{needs}
 use borrow.Author.Tests.{le-leb, lt-leb, leb-false}
-use Rattle.integers.specs.Limits.{NODES, TASKS}
-use Rattle.integers.proofs.Bools.{bool, clash}
+use Rattle.integers.specs.Limits.{INNER, NODES, TASKS}
+use Rattle.integers.proofs.Bools.{bool}
 use Rattle.trees.specs.declared.theta_lambda_node.Node.{Node}
 use Rattle.trees.specs.declared.theta_lambda_node.Around.{Around}
 use Rattle.trees.specs.declared.theta_lambda_node.Around.the-variants as around
@@ -21,7 +20,6 @@ use Rattle.trees.specs.declared.theta_lambda_node.PDescent.the-variants.
 use Rattle.trees.specs.declared.theta_lambda_node.EctBarDescent.the-variants as bar
 use Rattle.trees.specs.declared.theta_lambda_node.EctBarDescent.{EctBarDescent}
 use Rattle.trees.specs.Nodes.{joinOf}
-use Rattle.trees.specs.NodeBounds.{size, Fair, Fits}
 use Rattle.trees.specs.Descents.{gray}
 use Rattle.trees.specs.SearchSteps.{AroundFits, stepAtP, stepAtEct}
 use Rattle.trees.proofs.Descents.{By, sums, ects, asEct, stepAt, leaf-step, Fact, fact}
@@ -32,7 +30,7 @@ use Rattle.trees.specs.Shapes.{width, nodeOver}
 use Rattle.trees.specs.Arrays.{leftmost, HasHeight, leavesOf}
 use Rattle.trees.specs.Searches.{stepP, stepEct, searchP, searchEct}
 use Rattle.trees.specs.ArraySearches.{aroundOf, Searchable, nowhere, foundAt, responsibleOf}
-use Rattle.trees.proofs.Heights.{leftmost-leaf, leftmost-left, leftmost-right, inner-height, left-height, right-height, leaf-at, height-inside, root-first}
+use Rattle.trees.proofs.Heights.{leftmost-leaf, leftmost-left, leftmost-right, inner-height, left-height, right-height, leaf-at, height-inside}
 use Rattle.trees.proofs.ArrayTrees.{node-is, over-fits}
 
 module _ (leaf : ℕ → Node) where
@@ -105,17 +103,6 @@ module _ {m : ℕ} {at : ℕ → Node} where
     pub node-small : i < NODES
     node-small = omega (arith, height-inside m h i (s .has-height), s .room)
 
-    node-fits : (g j : ℕ) → HasHeight m g j → Fits size Fair (at j)
-    node-fits g j t = rw (node-is joinOf m at (s .tree) g j t) (over-fits additive (leavesOf m at) (s .bounded) g (leftmost g j - m))
-
-    -- an inner node has a height above 0, and so its children fit
-    pub child-fits : i < m → Fits size Fair (at (2 * i + 1)) × Fits size Fair (at (2 * i + 2))
-    child-fits q = by h (s .has-height)
-      where
-        by : (g : ℕ) → HasHeight m g i → Fits size Fair (at (2 * i + 1)) × Fits size Fair (at (2 * i + 2))
-        by zero t = absurd (omega (arith, leaf-at m i t))
-        by (suc g) t = (node-fits g (2 * i + 1) (left-height m g i t), node-fits g (2 * i + 2) (right-height m g i t))
-
     child : (g j : ℕ) → HasHeight m g j → Searchable m g j at
     child g j t = record { tree = s .tree; bounded = s .bounded; has-height = t; room = s .room }
 
@@ -144,21 +131,21 @@ module _ {m : ℕ} {at : ℕ → Node} where
         let z : i ≡ m + (leftmost 0 i - m) = omega (arith, t .from, leftmost-leaf i) in
         rw (y, aroundOf) (ap (λ (j : ℕ). around.Leaf (at j)) z)
     around-is (suc g) t =
-        let y : leb m i ≡ false = lt-leb m i (inner-height m g i t) in
+        let y : leb m i ≡ false = lt-leb m i (inner-height t) in
         let l : leftmost g (2 * i + 1) - m ≡ leftmost (suc g) i - m = omega (arith, leftmost-left g i) in
         let r : leftmost g (2 * i + 2) - m ≡ (leftmost (suc g) i - m) + width g = omega (arith, leftmost-right g i, t .from) in
         let n = node-is joinOf m at (s .tree) in
-        rw (y, aroundOf) (rw (n (suc g) i t, n g (2 * i + 1) (left-height m g i t), n g (2 * i + 2) (right-height m g i t), l, r) refl)
+        rw (y, aroundOf) (rw (n (suc g) i t, n g (2 * i + 1) (left-height t), n g (2 * i + 2) (right-height t), l, r) refl)
 
     -- the children of a node above the leaves
     abbrev raised : 1 ≤ h → HasHeight m (suc (h - 1)) i
     raised above = let z : h ≡ suc (h - 1) = omega arith in subst (λ (g : ℕ). HasHeight m g i) z (s .has-height)
 
     pub left-child : {j : ℕ} → j ≡ 2 * i + 1 → 1 ≤ h → Searchable m (h - 1) j at
-    left-child {j} e above = child s (h - 1) j (rw e (left-height m (h - 1) i (raised above)))
+    left-child {j} e above = child s (h - 1) j (rw e (left-height (raised above)))
 
     pub right-child : {j : ℕ} → j ≡ 2 * i + 2 → 1 ≤ h → Searchable m (h - 1) j at
-    right-child {j} e above = child s (h - 1) j (rw e (right-height m (h - 1) i (raised above)))
+    right-child {j} e above = child s (h - 1) j (rw e (right-height (raised above)))
 
     abbrev L : ℕ → Node
     L = leavesOf m at
@@ -184,12 +171,15 @@ module _ {m : ℕ} {at : ℕ → Node} where
     to-here : {whole : Option ℕ} → (h ≡ 0) × (whole ≡ some a) → i ≡ foundAt m whole
     to-here (z, is) = rw is (omega (arith, s .has-height .from, ap (λ (g : ℕ). leftmost g i) z, leftmost-leaf i))
 
+    -- the children of a node over leaves fit
+    around-over : (h a : ℕ) → AroundFits (aroundOver L h a)
+    around-over zero a = tt
+    around-over (suc g) a = (over-fits additive L (s .bounded) g a, over-fits additive L (s .bounded) g (a + width g))
+
     -- What a step from the node says, taken by what was read there.
     module _ {x : Around} (read : x ≡ aroundOf m at i) where
       pub around-fits : AroundFits x
-      unfolding aroundOf
-      around-fits = rw read (elim (decLt i m)
-          [ yes q ↦ (let y : leb m i ≡ false = lt-leb m i q in rw (y, aroundOf) (child-fits s q)) | no q ↦ (let y : leb m i ≡ true = le-leb m i (omega arith) in rw (y, aroundOf) tt) ])
+      around-fits = rw (read ∙ around-is h (s .has-height)) (around-over h a)
 
       says : (by : By) {d : EctBarDescent} → stepAt by x ≡ d → After L by h a d
       says by is = subst (After L by h a) (ap (stepAt by) (sym (around-is h (s .has-height)) ∙ sym read) ∙ is) (after L by h a)
@@ -257,66 +247,15 @@ pub ruleset by-ects = (descends, above-right-ect, above-middle-ect, above-left-e
 
 -- the answers ------------------------------------------------------------------------------------------------------------------
 
-some-is : {a x : ℕ} → some a ≡ some x → a ≡ x
-some-is q = cc
+-- A position that a search from the root answers, where every answer is the leaf of a task.
+module _ {m r : ℕ} (few : m ≤ INNER) where
+  pub none-at : (o : Option ℕ) → ((x : ℕ) → o ≡ some x → x < TASKS) → r ≡ foundAt m o → r ≡ nowhere → o ≡ none
+  none-at none small is y = refl
+  none-at (some x) small is y = absurd (omega (arith, small x refl))
 
-none-not : {X : Type 0} {x : ℕ} → none ≡ some x → X
-none-not q = let z : _≡_ {A = ℕ} 0 1 = cc in absurd (omega arith)
-
-module _ (leaf : ℕ → Node) where
-  found-gray : (a x : ℕ) → elim (gray (leaf a)) [ true ↦ some a | false ↦ none ] ≡ some x → gray (leaf x) ≡ true
-  found-gray a x q = elim (bool (gray (leaf a))) [ inl t ↦ (let z : a ≡ x = some-is (rw t at q) in rw z at t) | inr t ↦ none-not (rw t at q) ]
-
-  -- a leaf that is found is gray
-  answer : (by : By) (h a x : ℕ) → searchBy leaf by h a ≡ some x → gray (leaf x) ≡ true
-  answer by zero a x q = found-gray a x (sym (leaf-search leaf by a) ∙ q)
-  answer by (suc g) a x q = go (answer by g a x) (λ k. answer k g (a + width g) x) (stepAt by (aroundOver leaf (suc g) a)) (sym (inner-is leaf by g a) ∙ q)
-    where
-      go : (searchBy leaf by g a ≡ some x → gray (leaf x) ≡ true) → ((k : By) → searchBy leaf k g (a + width g) ≡ some x → gray (leaf x) ≡ true) → (d : EctBarDescent) → rest leaf by g a d ≡ some x
-          → gray (leaf x) ≡ true
-      go l r bar.Left y = l y
-      go l r bar.RightP y = r sums y
-      go l r bar.Right y = r ects y
-      go l r bar.Here y = none-not y
-      go l r bar.Nothing y = none-not y
-
--- A position that the search from the root answers: its place is that of a task.
-pub record AnswerAt (m h : ℕ) (at : ℕ → Node) (position : ℕ) : Type 0 where
-  pub place : ℕ
-  pub is : position ≡ m + place
-  pub small : place < TASKS
-  pub same : searchEct (leavesOf m at) h 0 ≡ some place
-
--- What a search from the root requires: the leaves after those of the tasks are not gray.
-pub record RootSearchable (m h : ℕ) (at : ℕ → Node) : Type 0 where
-  pub from-root : Searchable m h 0 at
-  pub complete : m + 1 ≡ width h
-  pub past : (k : ℕ) → TASKS ≤ k → gray (leavesOf m at k) ≡ false
-
-module _ (m h : ℕ) (at : ℕ → Node) (s : RootSearchable m h at) where
-  abbrev root : Option ℕ
-  root = searchEct (leavesOf m at) h 0
-
-  from-first : (r : ℕ) → r ≡ foundAt m (searchEct (leavesOf m at) h (leftmost h 0 - m)) → r ≡ foundAt m root
-  from-first r e = e ∙ ap (λ (a : ℕ). foundAt m (searchEct (leavesOf m at) h a)) (root-first m h (s .complete))
-
-  -- a leaf that the search answers is that of a task
-  below : (x : ℕ) → root ≡ some x → x < TASKS
-  below x q = elim (decLt x TASKS) [ yes u ↦ u | no u ↦ clash (answer (leavesOf m at) ects h 0 x q) (s .past x (omega arith)) ]
-
-  pub answer-at : (r : ℕ) → r ≡ foundAt m (searchEct (leavesOf m at) h (leftmost h 0 - m)) → (r ≡ nowhere → ⊥) → AnswerAt m h at r
-  answer-at r e ne = by root refl (from-first r e)
-    where
-      by : (o : Option ℕ) → root ≡ o → r ≡ foundAt m o → AnswerAt m h at r
-      by none q z = absurd (ne z)
-      by (some x) q z = record { place = x; is = z; small = below x q; same = q }
-
-  pub no-answer : (r : ℕ) → r ≡ foundAt m (searchEct (leavesOf m at) h (leftmost h 0 - m)) → r ≡ nowhere → root ≡ none
-  no-answer r e y = by root refl (from-first r e)
-    where
-      by : (o : Option ℕ) → root ≡ o → r ≡ foundAt m o → root ≡ none
-      by none q z = q
-      by (some x) q z = absurd (omega (arith, below x q, s .from-root .room))
+  pub some-at : (o : Option ℕ) → ((x : ℕ) → o ≡ some x → x < TASKS) → r ≡ foundAt m o → (r ≡ nowhere → ⊥) → (m ≤ r) × (r - m < TASKS) × (o ≡ some (r - m))
+  some-at none small is ne = absurd (ne is)
+  some-at (some x) small is ne = let z : x ≡ r - m = omega arith in (omega arith, omega (arith, small x refl), ap some z)
 
 -- the task of the answer
 pub task-is : (tasks : List ℕ) (o : Option ℕ) (x : ℕ) (id : LocalId) → o ≡ some x → id .0 ≡ getD tasks x 0 → responsible.Task id ≡ responsibleOf tasks o

@@ -8,16 +8,16 @@ use native.Mathlib.Numerals.{add-one}
 use lib.ListN.{getD, replicate, length-replicate, getD-replicate}
 use Rattle.scheduling.specs.Scheduling.{natural, Tasks, total}
 use Rattle.scheduling.proofs.Sets.{total-suc}
-use Rattle.scheduling.proofs.LeafRanges as leafRange
+use Rattle.scheduling.proofs.LeafRanges as range
 use Rattle.trees.specs.NodeBounds.{LATEST}
-use Rattle.trees.specs.Shapes.{width, heightFor}
+use Rattle.trees.specs.Shapes.{heightFor}
 use Rattle.trees.specs.Ects.{raisedTo}
 use Rattle.trees.specs.Leaves.{Leaf, empty, white, inTheta, inLambda, startAt, durationAt, root, ect-bar}
 use Rattle.trees.specs.Trees.{Limited}
 use Rattle.trees.proofs.Ects.{raised-decoded}
 use Rattle.trees.proofs.Heights.{enough}
 use Rattle.trees.proofs.LeafColours.{past-empty}
-use Rattle.trees.proofs.RangeNodes.{over-holds, to-first}
+use Rattle.trees.proofs.RangeNodes.{first-hold}
 
 module _ (J : Tasks natural) (estOrder : List ℕ) where
   abbrev e : ℕ → ℕ
@@ -60,16 +60,13 @@ module _ (J : Tasks natural) (estOrder : List ℕ) where
   is-white : (k : ℕ) → k < J .count → w k ≡ true
   is-white k q = ap inTheta (getD-replicate (J .count) k white empty q)
 
-  in-turn : (x : ℕ) → x ≤ J .count → leafRange.ect-bar w g e p 0 x ≡ ectOfFirst x
+  in-turn : (x : ℕ) → x ≤ J .count → range.ect-bar w g e p 0 x ≡ ectOfFirst x
   unfolding ectOfFirst
-  in-turn zero q = leafRange.blank w g e p 0 .tb
-  in-turn (suc x) q = leafRange.white w g e p 0 x x (omega arith) (is-white x q) .tb ∙ ap (λ (v : ℕ). max v (e x) + p x) (in-turn x (omega arith))
-
-  root-bar : root J estOrder whites .«ect_bar» ≡ leafRange.ect-bar w g e p 0 (width (heightFor (J .count)))
-  unfolding root
-  root-bar = over-holds colour e p (heightFor (J .count)) 0 .ect-bar
+  in-turn zero q = range.blank w g e p 0 .tb
+  in-turn (suc x) q = range.white w g e p 0 x x (omega arith) (is-white x q) .tb ∙ ap (λ (v : ℕ). max v (e x) + p x) (in-turn x (omega arith))
 
   pub all-in-turn : raisedTo 0 (ect-bar J estOrder (replicate (J .count) white)) ≡ ectOfFirst (J .count)
-  all-in-turn = raised-decoded (root J estOrder whites .«ect_bar») ∙ root-bar
-      ∙ to-first colour e p (J .count) (width (heightFor (J .count))) (enough (J .count)) (past-empty J estOrder whites (length-replicate (J .count) white)) .2
+  unfolding root
+  all-in-turn = raised-decoded (root J estOrder whites .«ect_bar»)
+      ∙ first-hold colour e p (heightFor (J .count)) (J .count) (enough (J .count)) (past-empty J estOrder whites (length-replicate (J .count) white)) .2
       ∙ in-turn (J .count) (omega arith)

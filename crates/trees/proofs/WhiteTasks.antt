@@ -6,7 +6,7 @@ use mathlib.Core.List.{List, [], _∷_}
 use Prim.Native.Nat.{ℕ, zero, suc, _+_, _≤_, _<_}
 use native.Mathlib.Omega.{arith}
 use native.Mathlib.Decide.{ℕ-discrete}
-use Rattle.integers.specs.Orders.{has, Distinct}
+use Rattle.integers.specs.Orders.{has}
 use Rattle.integers.proofs.Bools.{bool, clash}
 use Rattle.integers.proofs.Permutations.{has-here, has-later, has-nil, has-cases}
 use Rattle.scheduling.specs.Scheduling.{natural, Tasks}
@@ -69,19 +69,6 @@ module _ (white : ℕ → Bool) (task : ℕ → ℕ) where
       by (inl v) ih = elim (has-cases (task a) k (thetaOf white task (suc a) d) (rw (theta-white white task a d v) at h))
           [ inl z ↦ (a, omega arith, omega arith, v, z) | inr q ↦ later (ih q) ]
       by (inr v) ih = later (ih (rw (theta-skip white task a d v) at h))
-
-  -- each once, where no two leaves have one task
-  pub theta-distinct : (a d : ℕ) → ((i j : ℕ) → i < j → j < a + d → task i ≡ task j → ⊥) → Distinct (thetaOf white task a d)
-  theta-distinct a zero apart = rw (theta-none white task a) tt
-  theta-distinct a (suc d) apart = by (bool (white a)) (theta-distinct (suc a) d (λ i j q r. apart i j q (omega arith)))
-    where
-      new : (b : Bool) → has (thetaOf white task (suc a) d) (task a) ≡ b → b ≡ false
-      new false e = refl
-      new true e = let (j, lo, hi, y, z) = theta-from (suc a) d (task a) e in absurd (apart a j (omega arith) (omega arith) (sym z))
-
-      by : (white a ≡ true) ⊎ (white a ≡ false) → Distinct (thetaOf white task (suc a) d) → Distinct (thetaOf white task a (suc d))
-      by (inl v) ih = rw (theta-white white task a d v) (new (has (thetaOf white task (suc a) d) (task a)) refl, ih)
-      by (inr v) ih = rw (theta-skip white task a d v) ih
 
 -- Theta is the list over all leaves
 pub theta-is : (J : Tasks natural) (estOrder : List ℕ) (ls : List Leaf) → theta J estOrder ls ≡ thetaOf (whiteAt ls) (taskAt J estOrder) 0 (J .count)

@@ -4,13 +4,10 @@ use Rattle.trees.proofs.NodeWords.{stored}
 use Rattle.trees.proofs.theta_lambda_tree.store.Statement.{statement}
 use Rattle.trees.proofs.theta_lambda_tree.store.Tie as tie
 
-returns : tie.Need-returns
-returns c = stored (c .args .nodes .now) (c .args .i) (c .args .n) (c .pre .0) (c .pre .1)
-
 pub store-spec : {M : Type 1} → statement M
 store-spec =
     tie.close
     (tie.spec
     (λ c. search needs) (λ c. search needs) (λ c. search needs) (λ c. search needs) (λ c. search needs)
     (λ c. search needs) (λ c. search needs) (λ c. search needs) (λ c. search needs) (λ c. search needs)
-    (λ c. search needs) (λ c. search needs) returns)
+    (λ c. search needs) (λ c. search needs) (λ c. stored (c .args .nodes .now) (c .args .i) (c .args .n) (c .pre .0) (c .pre .1)))

@@ -3,8 +3,5 @@ use Rattle.trees.proofs.Descents.{bar-empty}
 use Rattle.trees.proofs.theta_lambda_node.Node.is_empty.Statement.{statement}
 use Rattle.trees.proofs.theta_lambda_node.Node.is_empty.Tie as tie
 
-returns : tie.Need-returns
-returns c = bar-empty (c .before .args .self) (c .before .pre)
-
 pub is-empty-spec : {M : Type 1} → statement M
-is-empty-spec = tie.close (tie.spec returns)
+is-empty-spec = tie.close (tie.spec (λ c. bar-empty (c .before .args .self) (c .before .pre)))

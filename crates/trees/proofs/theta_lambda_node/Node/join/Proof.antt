@@ -6,7 +6,7 @@ use Rattle.trees.proofs.theta_lambda_node.Node.join.Tie as tie
 
 returns : tie.Need-returns
 unfolding joinOf
-returns c = cc
+returns c = rw (c .before .before .before .max .ensures, c .before .before .max2 .ensures, c .max4 .ensures, c .before .max3 .ensures)
 
 pub join-spec : {M : Type 1} → statement M
 join-spec =

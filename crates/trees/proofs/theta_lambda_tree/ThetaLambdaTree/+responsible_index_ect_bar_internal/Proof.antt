@@ -18,19 +18,14 @@ use Rattle.trees.proofs.theta_lambda_tree.ThetaLambdaTree.+responsible_
 abbrev μ : Measures 1 kinds.ps ℕ
 μ κs a = a .1 .1 .1 .0
 
-module _ (t : ℕ) where
-  abbrev here : In 1 kinds.ps
-  here = and 1 kinds.ps (is 1 kinds.ps μ t) reads.Pre
-
-  abbrev below : In 1 kinds.ps
-  below = and 1 kinds.ps (falls 1 kinds.ps _<_ μ t) reads.Pre
-
-  abbrev claims : lts.Claims
-  claims = (around.Asked, around.Learnt, left.Asked, left.Learnt, right.Asked, right.Learnt, step.Asked, step.Learnt, below, reads.Post, by-sum.Asked, by-sum.Learnt)
+abbrev below : ℕ → In 1 kinds.ps
+below t = and 1 kinds.ps (falls 1 kinds.ps _<_ μ t) reads.Pre
 
 pub +responsible-index-ect-bar-internal-spec : {M : Type 1} → statement M
 +responsible-index-ect-bar-internal-spec =
-    close μ (λ t. lts.spec (claims t) (here t) reads.Post
+    close μ (λ t. lts.spec
+    (around.Asked, around.Learnt, left.Asked, left.Learnt, right.Asked, right.Learnt, step.Asked, step.Learnt, below t, reads.Post, by-sum.Asked, by-sum.Learnt)
+    (and 1 kinds.ps (is 1 kinds.ps μ t) reads.Pre) reads.Post
     (λ c κs. search by-ects) (λ c κs. search by-ects) (λ c κs. search by-ects) (λ c κs. search by-ects)
     (λ c. search by-ects) (λ c. search by-ects) (λ c κs. search by-ects) (λ c. search by-ects) (λ c. search by-ects)
     (λ c κs. search by-ects) (λ c. search by-ects) (λ c. search by-ects) (λ c κs. search by-ects)

@@ -1,6 +1,5 @@
 -- The search by sums is `searchP` over the leaves: each call goes down to one child, and the height left falls.
 use Prim.Native.Nat.{ℕ, _<_}
-use borrow.Fn.Kinds.{In}
 use borrow.Fn.PlainCycle.{Measures, is, falls, and}
 use Rattle.trees.proofs.theta_lambda_node.Around.step_p.Reads as step
 use Rattle.trees.proofs.SearchSteps.{by-sums}
@@ -17,19 +16,11 @@ use Rattle.trees.proofs.theta_lambda_tree.ThetaLambdaTree.+responsible_
 abbrev μ : Measures 1 kinds.ps ℕ
 μ κs a = a .1 .1 .1 .0
 
-module _ (t : ℕ) where
-  abbrev here : In 1 kinds.ps
-  here = and 1 kinds.ps (is 1 kinds.ps μ t) reads.Pre
-
-  abbrev below : In 1 kinds.ps
-  below = and 1 kinds.ps (falls 1 kinds.ps _<_ μ t) reads.Pre
-
-  abbrev claims : lts.Claims
-  claims = (around.Asked, around.Learnt, left.Asked, left.Learnt, right.Asked, right.Learnt, step.Asked, step.Learnt, below, reads.Post)
-
 pub +responsible-index-p-internal-spec : {M : Type 1} → statement M
 +responsible-index-p-internal-spec =
-    close μ (λ t. lts.spec (claims t) (here t) reads.Post
+    close μ (λ t. lts.spec
+    (around.Asked, around.Learnt, left.Asked, left.Learnt, right.Asked, right.Learnt, step.Asked, step.Learnt, and 1 kinds.ps (falls 1 kinds.ps _<_ μ t) reads.Pre, reads.Post)
+    (and 1 kinds.ps (is 1 kinds.ps μ t) reads.Pre) reads.Post
     (λ c κs. search by-sums) (λ c κs. search by-sums) (λ c κs. search by-sums) (λ c κs. search by-sums)
     (λ c. search by-sums) (λ c. search by-sums) (λ c κs. search by-sums) (λ c. search by-sums) (λ c. search by-sums)
     (λ c κs. search by-sums) (λ c. search by-sums) (λ c. search by-sums) (λ c. search by-sums) (λ c. search by-sums)

@@ -6,7 +6,7 @@ use Rattle.trees.proofs.theta_node.Node.join.Tie as tie
 
 returns : tie.Need-returns
 unfolding plainJoinOf
-returns c = cc
+returns c = rw (c .max .ensures)
 
 pub join-spec : {M : Type 1} → statement M
 join-spec = tie.close (tie.spec (λ c. search needs) (λ c. search needs) (λ c κs. search needs) returns)

@@ -1,15 +1,12 @@
 -- Words that are all 0 hold the tree of empty leaves, whatever the tasks.
-use mathlib.Core.Path.{refl, sym, ap, _∙_}
-use Prim.Native.Nat.{ℕ}
 use borrow.Author.Needs.{needs}
-use Rattle.trees.specs.Shapes.{width, heightFor}
 use Rattle.trees.proofs.Heights.{sized}
 use Rattle.trees.proofs.Trees.{new-plain-tree}
 use Rattle.trees.proofs.theta_tree.ThetaTree.new.Statement.{statement}
 use Rattle.trees.proofs.theta_tree.ThetaTree.new.Tie as tie
 
 returns : tie.Need-returns
-returns c = record { empties = λ J estOrder z. new-plain-tree J estOrder _ _ refl (sized _ _ _ (c .size-for .ensures) ∙ ap (λ (n : ℕ). width (heightFor n)) (sym z)) }
+returns c = record { empties = λ J estOrder z. new-plain-tree J estOrder (sized (c .size-for .ensures) z) }
 
 pub new-spec : {M : Type 1} → statement M
 new-spec = tie.close (tie.spec (λ c κs. search needs) returns)
