@@ -3,12 +3,11 @@ use Rattle.scheduling.proofs.Every.{every-append, every-map}
 use native.Mathlib.Decide.{decLt}
 use mathlib.Core.Path.{_≡_, refl, sym, ap, _∙_}
 use mathlib.Core.Bool.{true, false, _&&_}
-use mathlib.Core.List.{List, [], _∷_, _++_}
+use mathlib.Core.List.{List, [], _∷_}
 use mathlib.Core.Option.{some, none}
 use Prim.Native.Nat.{ℕ, zero, suc, _+_, _≤_, _<_}
 use native.Mathlib.Omega.{arith}
 use borrow.Author.Tests.{leb-true, le-leb}
-use lib.Dec.{leb}
 use lib.IntN.{ℤ, pos, negsuc, negℤ, natAbs}
 use lib.ListN.{length, getD, drop}
 use lib.Seq.{drop-cons}
@@ -35,13 +34,13 @@ right-variable x y = let (p, q) = and-true (leZ (pos 0) x) (ltZ x (pos VARIABLES
 
 pub number-right : (x : ℕ) → x < VARIABLES → rightVariable (pos x) ≡ true
 unfolding up dn
-number-right x h = and-yes (leZ (pos 0) (pos x)) (ltZ (pos x) (pos VARIABLES)) (le-leZ (pos 0) (pos x) (omega ints)) (lt-ltZ (pos x) (pos VARIABLES) (omega ints))
+number-right x h = and-yes _ _ (le-leZ (pos 0) (pos x) (omega ints)) (lt-ltZ (pos x) (pos VARIABLES) (omega ints))
 
 pub right-atom : (x k v : ℤ) → rightAtom x k v ≡ true → RightAtom x k v
 unfolding rightAtom
 right-atom x k v y =
-    let (p, q) = and-true (rightVariable x) ((leZ (pos 0) k && leZ k (pos 3)) && (leZ (negℤ (pos VALUE)) v && leZ v (pos VALUE))) y in
-    let (r, s) = and-true (leZ (pos 0) k && leZ k (pos 3)) (leZ (negℤ (pos VALUE)) v && leZ v (pos VALUE)) q in
+    let (p, q) = and-true _ _ y in
+    let (r, s) = and-true _ _ q in
     let (a, b) = and-true (leZ (pos 0) k) (leZ k (pos 3)) r in
     let (e, f) = and-true (leZ (negℤ (pos VALUE)) v) (leZ v (pos VALUE)) s in
     let (m, n) = right-variable x p in
@@ -49,12 +48,14 @@ right-atom x k v y =
 
 pub atom-right : (x k v : ℤ) → RightAtom x k v → rightAtom x k v ≡ true
 unfolding rightAtom up dn
-atom-right x k v r =
-    and-yes (rightVariable x) ((leZ (pos 0) k && leZ k (pos 3)) && (leZ (negℤ (pos VALUE)) v && leZ v (pos VALUE)))
-    (and-yes (leZ (pos 0) x) (ltZ x (pos VARIABLES)) (le-leZ (pos 0) x (r .variable)) (lt-ltZ x (pos VARIABLES) (below x (r .variable) (r .known))))
-    (and-yes (leZ (pos 0) k && leZ k (pos 3)) (leZ (negℤ (pos VALUE)) v && leZ v (pos VALUE))
-    (and-yes (leZ (pos 0) k) (leZ k (pos 3)) (le-leZ (pos 0) k (r .kind-low)) (le-leZ k (pos 3) (r .kind-high)))
-    (and-yes (leZ (negℤ (pos VALUE)) v) (leZ v (pos VALUE)) (le-leZ (negℤ (pos VALUE)) v (r .value .low)) (le-leZ v (pos VALUE) (r .value .high))))
+atom-right x k v r = rw (
+  le-leZ (pos 0) x (r .variable),
+  lt-ltZ x (pos VARIABLES) (below x (r .variable) (r .known)),
+  le-leZ (pos 0) k (r .kind-low),
+  le-leZ k (pos 3) (r .kind-high),
+  le-leZ (negℤ (pos VALUE)) v (r .value .low),
+  le-leZ v (pos VALUE) (r .value .high),
+)
   where
     below : (x : ℤ) → pos 0 ≤ℤ x → natAbs x < VARIABLES → x <ℤ pos VARIABLES
     below (pos n) p q = omega ints
@@ -91,7 +92,15 @@ module _ (l : List ℤ) (i : ℕ) (h : i + 3 ≤ length l) where
 -- the three words at i are an atom, and right words follow it
 pub words-at : (l : List ℤ) (i : ℕ) (h : i + 3 ≤ length l) → rightWords (drop i l) ≡ true
     → (rightAtom (getD l i (pos 0)) (getD l (i + 1) (pos 0)) (getD l (i + 2) (pos 0)) ≡ true) × (rightWords (drop (i + 3) l) ≡ true)
-words-at l i h y = and-true (rightAtom (getD l i (pos 0)) (getD l (i + 1) (pos 0)) (getD l (i + 2) (pos 0))) (rightWords (drop (i + 3) l)) (sym (words-on l i h) ∙ y)
+words-at l i h y = and-true _ _ (sym (words-on l i h) ∙ y)
+
+-- what holds of no words, and of three that are an atom before words of which it holds, holds of right words
+pub words-by : (P : List ℤ → Type 0) → P [] → ((x k v : ℤ) (l : List ℤ) → rightAtom x k v ≡ true → P l → P (x ∷ k ∷ v ∷ l)) → (l : List ℤ) → rightWords l ≡ true → P l
+unfolding rightWords
+words-by P n c [] y = n
+words-by P n c (x ∷ []) y = clash y refl
+words-by P n c (x ∷ k ∷ []) y = clash y refl
+words-by P n c (x ∷ k ∷ v ∷ l) y = let (p, q) = and-true _ _ y in c x k v l p (words-by P n c l q)
 
 pub words-short : (l : List ℤ) → 0 < length l → length l < 3 → rightWords l ≡ false
 unfolding rightWords
@@ -117,14 +126,8 @@ abbrev pub Held : Atom → Type 0
 Held a = (a .variable < VARIABLES) × Within VALUE (a .value)
 
 pub words-known : (l : List ℤ) → rightWords l ≡ true → Every Held (atomsOf l)
-unfolding rightWords atomsOf
-words-known [] y = tt
-words-known (x ∷ []) y = tt
-words-known (x ∷ k ∷ []) y = tt
-words-known (x ∷ k ∷ v ∷ l) y =
-    let (p, q) = and-true (rightAtom x k v) (rightWords l) y in
-    let r = right-atom x k v p in
-    ((r .known, r .value), words-known l q)
+unfolding atomsOf
+words-known = words-by (λ l. Every Held (atomsOf l)) tt (λ x k v l p e. let r = right-atom x k v p in ((r .known, r .value), e))
 
 -- words of atoms and back
 pub atoms-words : (l : List Atom) → atomsOf (atomWords l) ≡ l
@@ -142,8 +145,8 @@ negation-within (suc (suc k)) v w = wider VALUE (VALUE + 1) v (omega arith) w
 pub right-lists : (p c : List ℤ) → rightLists p c ≡ true → (rightWords p ≡ true) × (length c ≤ 3) × (rightWords c ≡ true)
 unfolding rightLists
 right-lists p c y =
-    let (a, r) = and-true (rightWords p) (leb (length c) 3 && rightWords c) y in
-    let (b, d) = and-true (leb (length c) 3) (rightWords c) r in
+    let (a, r) = and-true _ _ y in
+    let (b, d) = and-true _ _ r in
     (a, leb-true (length c) 3 b, d)
 
 -- the consequent of no words, and of three
@@ -158,12 +161,6 @@ consequent-one [] e = absurd (omega arith)
 consequent-one (x ∷ []) e = absurd (omega arith)
 consequent-one (x ∷ k ∷ []) e = absurd (omega arith)
 consequent-one (x ∷ k ∷ v ∷ c) e = refl
-
-pub given-none : (atoms : List Atom) (c : List ℤ) → length c ≡ 0 → given atoms (consequentOf c) ≡ atoms
-given-none atoms c e = ap (given atoms) (consequent-none c e)
-
-pub given-one : (atoms : List Atom) (c : List ℤ) → length c ≡ 3 → given atoms (consequentOf c) ≡ atoms ++ (negation (atomAt c 0) ∷ [])
-given-one atoms c e = ap (given atoms) (consequent-one c e)
 
 -- what holds of each atom of right words, and of its negation, holds of all that are given
 pub given-each : (P : Atom → Type 0) → ((a : Atom) → Held a → P a) → ((a : Atom) → Held a → P (negation a)) → (p c : List ℤ) → rightLists p c ≡ true → Every P (given (atomsOf p) (consequentOf c))
@@ -187,7 +184,7 @@ well-right a w = atom-right (pos (a .variable)) (pos (a .kind)) (a .value)
 pub words-right : (l : List Atom) → Every WellFormed l → rightWords (atomWords l) ≡ true
 unfolding rightWords
 words-right [] e = ap rightWords no-words
-words-right (a ∷ l) e = ap rightWords (three-words a l) ∙ and-yes (rightAtom (pos (a .variable)) (pos (a .kind)) (a .value)) (rightWords (atomWords l)) (well-right a (e .0)) (words-right l (e .1))
+words-right (a ∷ l) e = ap rightWords (three-words a l) ∙ and-yes _ _ (well-right a (e .0)) (words-right l (e .1))
 
 pub lists-right : (p c : List ℤ) → rightWords p ≡ true → length c ≤ 3 → rightWords c ≡ true → rightLists p c ≡ true
 unfolding rightLists

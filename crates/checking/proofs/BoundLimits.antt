@@ -1,15 +1,15 @@
 -- The bounds of a prepared state lie near the limits of an atom's value: HOLES holes and a negation further out at most.
 use mathlib.Core.Path.{_≡_, sym, subst}
-use mathlib.Core.Bool.{Bool, true, false, cond}
+use mathlib.Core.Bool.{true}
 use mathlib.Core.List.{List, [], _∷_}
 use Prim.Native.Nat.{ℕ, zero, suc, _+_, _≤_, _<_}
 use native.Mathlib.Omega.{arith}
-use lib.IntN.{ℤ, pos, negsuc, _+ℤ_}
+use lib.IntN.{ℤ, pos, negsuc}
 use lib.ListN.{length, getD-replicate}
 use Rattle.integers.specs.Limits.{VARIABLES, VALUE, HOLES}
 use Rattle.integers.proofs.Ints.{ints, up, dn, sumℤ}
 use Rattle.scheduling.specs.Scheduling.{Atom, Every, given, negatedKind, negatedValue}
-use Rattle.holes.specs.Holes.{inserted, firstFrom, lastUpTo, First, Last}
+use Rattle.holes.specs.Holes.{Ascending, lastUpTo}
 use Rattle.integers.specs.WholeNumbers.{Within}
 use Rattle.holes.proofs.Ascending.{first-is, last-is}
 use Rattle.holes.proofs.BoundSteps.{step-within, one-up, one-down}
@@ -18,9 +18,13 @@ use Rattle.checking.specs.Atoms.{atomsOf, consequentOf, rightLists}
 use Rattle.checking.proofs.Atoms.{given-each}
 use Rattle.checking.specs.declared.int_ext.IntExt.the-variants.{Int, NegativeInf, PositiveInf}
 use Rattle.checking.specs.declared.domain.Domain.{Domain}
-use Rattle.checking.specs.Domains.{allIntegers, holesOf, domainOf, Tight, tightenedLower, tightenedUpper, withoutLower, withoutUpper, between, withHole, without, applied}
+use Rattle.checking.specs.Domains.{allIntegers, holesOf, Tight, tightenedLower, withoutLower, withoutUpper, between, withHole, without, applied}
 use Rattle.checking.proofs.Domains.{used}
-use Rattle.checking.proofs.NarrowedDomains.{lower-case, lower-leaves, upper-case, low, low-cut, high, high-cut}
+use Rattle.checking.specs.declared.variable_state.Side.{Side}
+use Rattle.checking.specs.declared.variable_state.Side.the-variants.{Lower, Upper}
+use Rattle.checking.proofs.Choices.{choice}
+use Rattle.checking.proofs.Sides.{afterOn, movedOn}
+use Rattle.checking.proofs.NarrowedDomains.{cutOn, tightenedOn, tightened-case, tightened-leaves, withoutOn, without-case, side-cut}
 use Rattle.checking.specs.declared.variable_state.VariableState.{VariableState}
 use Rattle.checking.specs.declared.variable_state.Applied.{Applied}
 use Rattle.checking.specs.States.{AcceptedState, noDomain, domainAt, emptyState, stepped, applyAll, prepared}
@@ -48,55 +52,41 @@ no-int b e = let z : _≡_ {A = ℕ} 0 1 = cc in omega arith
 pub no-int′ : (b : ℤ) → PositiveInf ≡ Int b → ⊥
 no-int′ b e = let z : _≡_ {A = ℕ} 0 1 = cc in omega arith
 
-near-first : (v b : ℤ) (hs : List ℤ) → Within (VALUE + 1) v → First v hs b → length hs ≤ HOLES → Within (VALUE + 1 + HOLES) b
+near-moved : (s : Side) (v : ℤ) (hs : List ℤ) → Ascending hs → Within (VALUE + 1) v → length hs ≤ HOLES → Within (VALUE + 1 + HOLES) (movedOn s v hs)
 unfolding up dn
-near-first v b hs w f l = record { low = omega (ints, w .low, f .from); high = omega (ints, w .high, f .near, sumℤ v (pos (length hs))) }
+near-moved Lower v hs a w l = let f = first-is v hs a in record { low = omega (ints, w .low, f .from); high = omega (ints, w .high, f .near, sumℤ v (pos (length hs))) }
+near-moved Upper v hs a w l = let f = last-is v hs a in record { low = omega (ints, w .low, f .near, sumℤ (lastUpTo v hs) (pos (length hs))); high = omega (ints, w .high, f .to) }
 
-near-last : (v b : ℤ) (hs : List ℤ) → Within (VALUE + 1) v → Last v hs b → length hs ≤ HOLES → Within (VALUE + 1 + HOLES) b
-unfolding up dn
-near-last v b hs w f l = record { low = omega (ints, w .low, f .near, sumℤ b (pos (length hs))); high = omega (ints, w .high, f .to) }
+near-cut : (s : Side) (d : Domain) (b : ℤ) → Near d → Within (VALUE + 1 + HOLES) b → Near (cutOn s d b)
+near-cut Lower d b n w = record { lower = λ u e. subst (Within (VALUE + 1 + HOLES)) (same-int b u e) w; upper = n .upper }
+near-cut Upper d b n w = record { lower = n .lower; upper = λ u e. subst (Within (VALUE + 1 + HOLES)) (same-int b u e) w }
+
+near-after : (s : Side) (v : ℤ) → Within VALUE v → Within (VALUE + 1) (afterOn s v)
+near-after Lower v w = step-within VALUE v (pos 1) w one-up
+near-after Upper v w = step-within VALUE v (negsuc 0) w one-down
 
 module _ (d : Domain) (t : Tight d) (n : Near d) where
-  short : length (holesOf d) ≤ HOLES
-  short = omega (arith, used d t, t .few)
+  near-tightened : (s : Side) (v : ℤ) → Within (VALUE + 1) v → Near (tightenedOn s d v)
+  near-tightened s v w = tightened-case s d v Near (λ _. n) (λ _. near-cut s d _ n (near-moved s v (holesOf d) (t .order) w (omega (arith, used d t, t .few))))
 
-  near-lower : (v : ℤ) → Within (VALUE + 1) v → Near (tightenedLower d v)
-  near-lower v w = lower-case d v t Near (λ _. n) (λ _. record {
-    lower = λ u e. subst (Within (VALUE + 1 + HOLES)) (same-int (firstFrom v (holesOf d)) u e) (near-first v (firstFrom v (holesOf d)) (holesOf d) w (first-is v (holesOf d) (t .order)) short);
-    upper = n .upper;
-  })
-
-  near-upper : (v : ℤ) → Within (VALUE + 1) v → Near (tightenedUpper d v)
-  near-upper v w = upper-case d v t Near (λ _. n) (λ _. record {
-    lower = n .lower;
-    upper = λ u e. subst (Within (VALUE + 1 + HOLES)) (same-int (lastUpTo v (holesOf d)) u e) (near-last v (lastUpTo v (holesOf d)) (holesOf d) w (last-is v (holesOf d) (t .order)) short);
-  })
+  near-side : (s : Side) (v : ℤ) → Within VALUE v → Near (withoutOn s d v)
+  near-side s v w = without-case s d v Near (λ _. near-tightened s (afterOn s v) (near-after s v w)) (λ _. n)
 
   near-hole : (v : ℤ) → Near (withHole d v)
   unfolding withHole
-  near-hole v = by (between d v)
-    where
-      by : (k : Bool) → Near (cond k (domainOf (d .«lower_bound») (d .«upper_bound») (inserted v (holesOf d))) d)
-      by true = record { lower = n .lower; upper = n .upper }
-      by false = n
-
-  near-low : (v : ℤ) → Within VALUE v → Near (withoutLower d v)
-  near-low v w = low d v t Near (λ _. near-lower (v +ℤ pos 1) (step-within VALUE v (pos 1) w one-up)) (λ _. n)
-
-  near-high : (v : ℤ) → Within VALUE v → Near (withoutUpper d v)
-  near-high v w = high d v t Near (λ _. near-upper (v +ℤ negsuc 0) (step-within VALUE v (negsuc 0) w one-down)) (λ _. n)
+  near-hole v = choice Near (between d v) (λ _. record { lower = n .lower; upper = n .upper }) (λ _. n)
 
 near-without : (d : Domain) → Tight d → Near d → (v : ℤ) → Within VALUE v → Near (without d v)
 unfolding without
 near-without d t n v w =
-    let t₁ = low-cut d v t .tight in
-    let t₂ = high-cut (withoutLower d v) v t₁ .tight in
-    near-hole (withoutUpper (withoutLower d v) v) t₂ (near-high (withoutLower d v) t₁ (near-low d t n v w) v w) v
+    let t₁ = side-cut Lower d v t .tight in
+    let t₂ = side-cut Upper (withoutLower d v) v t₁ .tight in
+    near-hole (withoutUpper (withoutLower d v) v) t₂ (near-side (withoutLower d v) t₁ (near-side d t n Lower v w) Upper v w) v
 
 near-applied : (d : Domain) (k : ℕ) (v : ℤ) → Tight d → Near d → Valued k v → Near (applied d k v)
-near-applied d zero v t n w = near-lower d t n v (w .any)
-near-applied d (suc zero) v t n w = near-upper d t n v (w .any)
-near-applied d (suc (suc zero)) v t n w = near-upper (tightenedLower d v) (lower-leaves d v t .tight) (near-lower d t n v (w .any)) v (w .any)
+near-applied d zero v t n w = near-tightened d t n Lower v (w .any)
+near-applied d (suc zero) v t n w = near-tightened d t n Upper v (w .any)
+near-applied d (suc (suc zero)) v t n w = near-tightened (tightenedLower d v) (tightened-leaves Lower d v t .tight) (near-tightened d t n Lower v (w .any)) Upper v (w .any)
 near-applied d (suc (suc (suc k))) v t n w = near-without d t n v (w .other (omega arith))
 
 -- ---- states

@@ -23,10 +23,11 @@ use Rattle.checking.specs.declared.bound_words.BoundWords.{BoundWords}
 use Rattle.checking.specs.declared.variable_state.Bound.the-variants.{At}
 use Rattle.checking.specs.Bounds.{finite}
 use Rattle.checking.specs.Domains.{leExt, ltExt, domainOf, consistent, Tight, tightenedLower, tightenedUpper, applied}
-use Rattle.checking.specs.BoundWords.{lowerWord, upperWord, wordsOf, appliedWords, consistentWords, taskBoundsOfWords, HoleFree}
+use Rattle.checking.specs.BoundWords.{pairOf, lowerWord, upperWord, wordsOf, appliedWords, consistentWords, taskBoundsOfWords, HoleFree}
 use Rattle.checking.specs.TaskBounds.{twoBounds, boundsBetween, taskBounds}
 use Rattle.checking.proofs.BoundLimits.{same-int}
-use Rattle.checking.proofs.NarrowedDomains.{lower-case, lower-leaves, upper-case}
+use Rattle.checking.specs.declared.variable_state.Side.the-variants.{Lower, Upper}
+use Rattle.checking.proofs.NarrowedDomains.{tightened-case, tightened-leaves}
 
 -- Values -----------------------------------------------------------------------------------------------------------------------
 
@@ -52,12 +53,12 @@ module _ (d : Domain) (t : Tight d) (free : HoleFree d) (v : ℤ) where
   raised : (P : Domain → Type 0) → (leExt (Int v) (d .«lower_bound») ≡ true → P d) → (leExt (Int v) (d .«lower_bound») ≡ false → P (domainOf (Int v) (d .«upper_bound») []))
       → P (tightenedLower d v)
   unfolding firstFrom kept
-  raised P f g = lower-case d v t P f (λ n. rw (free .none) (g n))
+  raised P f g = tightened-case Lower d v P f (λ n. rw (free .none) (g n))
 
   lowered : (P : Domain → Type 0) → (leExt (d .«upper_bound») (Int v) ≡ true → P d) → (leExt (d .«upper_bound») (Int v) ≡ false → P (domainOf (d .«lower_bound») (Int v) []))
       → P (tightenedUpper d v)
   unfolding lastUpTo kept
-  lowered P f g = upper-case d v t P f (λ n. rw (free .none) (g n))
+  lowered P f g = tightened-case Upper d v P f (λ n. rw (free .none) (g n))
 
   module _ (near : Within (VALUE + 1) v) where
     raised-free : HoleFree (tightenedLower d v)
@@ -84,33 +85,29 @@ upper-word PositiveInf v f false y = omega arith
 module _ (d : Domain) (t : Tight d) (free : HoleFree d) (v : ℤ) where
   raised-words : wordsOf (tightenedLower d v) ≡ appliedWords (wordsOf d) 0 v
   raised-words =
+      let words : ℕ → BoundWords = λ m. pairOf m (upperWord (d .«upper_bound»)) in
       let word = lower-word (d .«lower_bound») v (t .lower-finite) in
       raised d t free v (λ e. wordsOf e ≡ appliedWords (wordsOf d) 0 v) (λ y. ap words (word true y)) (λ n. ap words (word false n))
-    where
-      words : ℕ → BoundWords
-      words m = record { lower = m; upper = upperWord (d .«upper_bound») }
 
   lowered-words : wordsOf (tightenedUpper d v) ≡ appliedWords (wordsOf d) 1 v
   lowered-words =
+      let words : ℕ → BoundWords = λ m. pairOf (lowerWord (d .«lower_bound»)) m in
       let word = upper-word (d .«upper_bound») v (t .upper-finite) in
       lowered d t free v (λ e. wordsOf e ≡ appliedWords (wordsOf d) 1 v) (λ y. ap words (word true y)) (λ n. ap words (word false n))
-    where
-      words : ℕ → BoundWords
-      words m = record { lower = lowerWord (d .«lower_bound»); upper = m }
 
 -- Every atom that makes no hole ------------------------------------------------------------------------------------------------
 
 pub applied-free : (d : Domain) → Tight d → HoleFree d → (k : ℕ) → k < 3 → (v : ℤ) → Within (VALUE + 1) v → HoleFree (applied d k v)
 applied-free d t free zero h v near = raised-free d t free v near
 applied-free d t free (suc zero) h v near = lowered-free d t free v near
-applied-free d t free (suc (suc zero)) h v near = lowered-free (tightenedLower d v) (lower-leaves d v t .tight) (raised-free d t free v near) v near
+applied-free d t free (suc (suc zero)) h v near = lowered-free (tightenedLower d v) (tightened-leaves Lower d v t .tight) (raised-free d t free v near) v near
 applied-free d t free (suc (suc (suc k))) h v near = absurd (omega arith)
 
 pub applied-words : (d : Domain) → Tight d → HoleFree d → (k : ℕ) → k < 3 → (v : ℤ) → Within (VALUE + 1) v → wordsOf (applied d k v) ≡ appliedWords (wordsOf d) k v
 applied-words d t free zero h v near = raised-words d t free v
 applied-words d t free (suc zero) h v near = lowered-words d t free v
 applied-words d t free (suc (suc zero)) h v near =
-    lowered-words (tightenedLower d v) (lower-leaves d v t .tight) (raised-free d t free v near) v ∙ ap (λ (w : BoundWords). appliedWords w 1 v) (raised-words d t free v)
+    lowered-words (tightenedLower d v) (tightened-leaves Lower d v t .tight) (raised-free d t free v near) v ∙ ap (λ (w : BoundWords). appliedWords w 1 v) (raised-words d t free v)
 applied-words d t free (suc (suc (suc k))) h v near = absurd (omega arith)
 
 -- What the words tell ----------------------------------------------------------------------------------------------------------

@@ -24,44 +24,30 @@ use Rattle.checking.proofs.States.{empty-accepted}
 
 -- no atom is on a variable past the last
 free : (atoms : List Atom) → Known atoms → (y : ℕ) → (y < VARIABLES → ⊥) → (z : ℤ) → Admits atoms y z
-free atoms known y q z = every-map (λ a h e. absurd (q (subst (λ (x : ℕ). x < VARIABLES) e h))) atoms known
+free atoms known y q z = every-map (λ a h e. absurd (q (rw e at h))) atoms known
 
--- a list that admits a value of x leaves it one at each of its atoms
-kept : (atoms : List Atom) (x : ℕ) → EmptiesFirst atoms x → (z : ℤ) → Admits atoms x z → ⊥
-kept atoms x f z m =
-    let m′ = subst (λ (l : List Atom). Admits l x z) (f .split) m in
-    f .none z (every-left (λ a. a .variable ≡ x → Allows a z) (f .before) (f .atom ∷ f .after) m′) (every-at (λ a. a .variable ≡ x → Allows a z) (f .before) (f .atom) (f .after) m′ (f .variable))
+-- a list that begins as the atoms do, with the one that leaves x no value, admits none
+kept : (atoms : List Atom) (x : ℕ) (f : EmptiesFirst atoms x) (l rest : List Atom) → l ≡ f .before ++ (f .atom ∷ rest) → (z : ℤ) → Admits l x z → ⊥
+kept atoms x f l rest e z m =
+    let m′ = subst (λ (l : List Atom). Admits l x z) e m in
+    f .none z (every-left (λ a. a .variable ≡ x → Allows a z) (f .before) (f .atom ∷ rest) m′) (every-at (λ a. a .variable ≡ x → Allows a z) (f .before) (f .atom) rest m′ (f .variable))
 
 -- Two places of a list ---------------------------------------------------------------------------------------------------------
 
--- the second stands past the first, or they are one
-data Places (p : List Atom) (a : Atom) (q : List Atom) (b : Atom) : Type 0 where
-  past : (c : List Atom) → q ≡ p ++ (a ∷ c) → Places p a q b
-  same : a ≡ b → Places p a q b
-  short : (c : List Atom) → p ≡ q ++ (b ∷ c) → Places p a q b
-
-places : (p : List Atom) (a : Atom) (c : List Atom) (q : List Atom) (b : Atom) (d : List Atom) → p ++ (a ∷ c) ≡ q ++ (b ∷ d) → Places p a q b
-places [] a c [] b d e = same (cc)
-places [] a c (x ∷ q) b d e = past q (cc)
-places (x ∷ p) a c [] b d e = short p (cc)
-places (x ∷ p) a c (y ∷ q) b d e = let first : x ≡ y = cc in by first (places p a c q b d (cc))
-  where
-    by : x ≡ y → Places p a q b → Places (x ∷ p) a (y ∷ q) b
-    by w (past r z) = past r (cc)
-    by w (same z) = same z
-    by w (short r z) = short r (cc)
+-- they are one where neither stands past the other
+places : (p : List Atom) (a : Atom) (c : List Atom) (q : List Atom) (b : Atom) (d : List Atom) → p ++ (a ∷ c) ≡ q ++ (b ∷ d)
+    → ((r : List Atom) → q ≡ p ++ (a ∷ r) → ⊥) → ((r : List Atom) → p ≡ q ++ (b ∷ r) → ⊥) → a ≡ b
+places [] a c [] b d e past short = cc
+places [] a c (x ∷ q) b d e past short = absurd (past q (cc))
+places (x ∷ p) a c [] b d e past short = absurd (short p (cc))
+places (x ∷ p) a c (y ∷ q) b d e past short = let first : x ≡ y = cc in places p a c q b d (cc) (λ r z. past r (cc)) (λ r z. short r (cc))
 
 -- only one atom is the first
 pub one-first : (atoms : List Atom) (x y : ℕ) → EmptiesFirst atoms x → EmptiesFirst atoms y → x ≡ y
-one-first atoms x y f g = by (places (f .before) (f .atom) (f .after) (g .before) (g .atom) (g .after) (sym (f .split) ∙ g .split))
-  where
-    never : (p : List Atom) (a : Atom) (c : List Atom) (i : ℕ) → a .variable ≡ i → ((z : ℤ) → Admits p i z → Allows a z → ⊥) → (z : ℤ) × Admits (p ++ (a ∷ c)) i z → ⊥
-    never p a c i e n (z, m) = n z (every-left (λ b. b .variable ≡ i → Allows b z) p (a ∷ c) m) (every-at (λ b. b .variable ≡ i → Allows b z) p a c m e)
-
-    by : Places (f .before) (f .atom) (g .before) (g .atom) → x ≡ y
-    by (past c e) = absurd (never (f .before) (f .atom) c x (f .variable) (f .none) (subst (λ (l : List Atom). (z : ℤ) × Admits l x z) e (g .left x)))
-    by (same e) = sym (f .variable) ∙ ap (λ (a : Atom). a .variable) e ∙ g .variable
-    by (short c e) = absurd (never (g .before) (g .atom) c y (g .variable) (g .none) (subst (λ (l : List Atom). (z : ℤ) × Admits l y z) e (f .left y)))
+one-first atoms x y f g =
+    let same = places (f .before) (f .atom) (f .after) (g .before) (g .atom) (g .after) (sym (f .split) ∙ g .split)
+    (λ r e. let (z, m) = g .left x in kept atoms x f (g .before) r e z m) (λ r e. let (z, m) = f .left y in kept atoms y g (f .before) r e z m) in
+    sym (f .variable) ∙ ap (λ (a : Atom). a .variable) same ∙ g .variable
 
 -- A prepared list --------------------------------------------------------------------------------------------------------------
 
@@ -91,15 +77,15 @@ module _ (premises consequent : List ℤ) where
               | yes h ↦ (let (z, m) = some-value (domainAt (p .state) y) (p .accepted-there .each y h) in (z, there y z .0 m .1))
               | no h ↦ (pos 0, free (p .before) kb y h (pos 0))
             ];
-            none = λ z m. no-value z (subst (λ (y : ℕ). Admitted (domainAt (p .state) y) z) (sym q) (there x z .1 (empty-admits x (subst (λ (y : ℕ). y < VARIABLES) q (p .known-there)) z, m)));
+            none = λ z m. no-value z (rw q (there x z .1 (empty-admits x (rw q at (p .known-there)) z, m)));
           }
 
   -- a consistent list leaves every variable a value
   consistent : prepared premises consequent .answer ≡ Consistent → (x : ℕ) → EmptiesFirst atoms x → ⊥
   consistent ok x f = elim (decLt x VARIABLES) [
     | yes h ↦ (let (z, m) = some-value (domainAt (prepared premises consequent .state) x) (prepared-accepted premises consequent .each x h) in
-        kept atoms x f z (prepared-admits premises consequent ok x h z .0 m))
-    | no h ↦ kept atoms x f (pos 0) (free atoms (given-known premises consequent (prepared-right premises consequent ok)) x h (pos 0))
+        kept atoms x f atoms (f .after) (f .split) z (prepared-admits premises consequent ok x h z .0 m))
+    | no h ↦ kept atoms x f atoms (f .after) (f .split) (pos 0) (free atoms (given-known premises consequent (prepared-right premises consequent ok)) x h (pos 0))
   ]
 
   pub prepared-contradiction : (x : ℕ) → ((n : ℕ) → prepared premises consequent .answer ≡ Refused n → ⊥) → prepared premises consequent .answer ≡ Contradiction x

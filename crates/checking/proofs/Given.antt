@@ -1,7 +1,6 @@
 -- The premises' words followed by the consequent's, three at a time: each three are an atom to apply, the consequent's negated.
 use mathlib.Core.Path.{_≡_, refl, sym, ap, ap₂, _∙_, subst}
-use mathlib.Core.Logic.{_⊎_, inl, inr}
-use mathlib.Core.Bool.{true, false}
+use mathlib.Core.Bool.{true}
 use mathlib.Core.List.{List, [], _∷_}
 use mathlib.Core.Option.{Option, some, none}
 use Prim.Native.Nat.{ℕ, _+_, _-_, _≤_, _<_}
@@ -11,10 +10,10 @@ use lib.Dec.{ltb}
 use lib.IntN.{ℤ, pos}
 use lib.ListN.{length, getD, drop, length-drop, drop-of-length-le}
 use Rattle.integers.specs.Limits.{VARIABLES, VALUE}
-use Rattle.integers.proofs.Bools.{bool}
 use Rattle.scheduling.specs.Scheduling.{Atom, negation, given}
 use Rattle.integers.specs.WholeNumbers.{Within}
 use Rattle.integers.proofs.WholeNumbers.{wider}
+use Rattle.checking.proofs.Choices.{choice}
 use Rattle.checking.specs.Atoms.{atomsOf, atomAt, first, consequentOf, givenAt, rightWords, rightLists, rightFrom, RightAtom}
 use Rattle.checking.proofs.Atoms.{right-atom, right-lists, lists-right, words-at, words-three, words-none, atoms-on, atoms-none, negation-within}
 
@@ -110,8 +109,4 @@ module _ (p c : List ℤ) where
           }
 
     pub next : Next i (givenAt p c i)
-    next = by (bool (ltb i (length p)))
-      where
-        by : (ltb i (length p) ≡ true) ⊎ (ltb i (length p) ≡ false) → Next i (givenAt p c i)
-        by (inl y) = rw y (next-premise (ltb-true i (length p) y))
-        by (inr y) = rw y (next-consequent (ltb-false i (length p) y))
+    next = choice (Next i) (ltb i (length p)) (λ y. next-premise (ltb-true i (length p) y)) (λ y. next-consequent (ltb-false i (length p) y))

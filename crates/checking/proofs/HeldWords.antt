@@ -12,11 +12,10 @@ use Rattle.integers.specs.WholeNumbers.{Within}
 use Rattle.integers.proofs.FilledLists.{getD-fresh}
 use Rattle.scheduling.specs.Scheduling.{Atom}
 use Rattle.checking.specs.declared.domain.Domain.{Domain}
-use Rattle.checking.specs.declared.domain.Effect.the-variants.{Narrowed, Emptied}
 use Rattle.checking.specs.declared.bound_words.BoundWords.{BoundWords}
 use Rattle.checking.specs.declared.variable_state.VariableState.{VariableState}
 use Rattle.checking.specs.declared.variable_state.Application.the-variants.{Consistent, Contradiction}
-use Rattle.checking.specs.Domains.{allIntegers, consistent, applied, settled, reduced, Tight}
+use Rattle.checking.specs.Domains.{allIntegers, consistent, applied, Tight}
 use Rattle.checking.specs.BoundWords.{pairOf, wordsOf, appliedWords, consistentWords, taskBoundsOfWords, wordsAt, boundsOfWords, HoleFree, HeldWords}
 use Rattle.checking.specs.States.{noDomain, domainAt, put, emptyState, stepped}
 use Rattle.checking.specs.TaskBounds.{boundsAt, boundsOf}
@@ -25,8 +24,9 @@ use Rattle.checking.proofs.BoundWords.{applied-free, applied-words, wor
 use Rattle.checking.proofs.Bounds.{bounds-at}
 use Rattle.checking.proofs.FilledBounds.{bounds-same}
 use Rattle.checking.proofs.NarrowedDomains.{applied-leaves}
+use Rattle.integers.proofs.Bools.{clash}
 use Rattle.checking.proofs.PreparedStates.{no-room}
-use Rattle.checking.proofs.States.{empty-accepted, put-same, put-other, put-each, put-accepted, when-narrowed, when-emptied}
+use Rattle.checking.proofs.States.{empty-accepted, put-same, put-other, put-each, put-accepted, stepped-case}
 
 -- Without bounds ---------------------------------------------------------------------------------------------------------------
 
@@ -73,17 +73,10 @@ module _ (s : VariableState) (lower upper : List ℕ) (held : HeldWords s lower 
   leaves : {t : Bool} → consistentWords w ≡ t → consistent d′ ≡ t
   leaves e = sym (words-consistent d′ tight′ free′) ∙ ap consistentWords (sym words′) ∙ e
 
-  narrows : consistent d′ ≡ true → record { effect = Narrowed; domain = d′ } ≡ reduced d (a .kind) (a .value)
-  unfolding reduced settled
-  narrows e = let n = no-room d (a .kind) (a .value) kind in rw (n, e)
-
-  empties : consistent d′ ≡ false → record { effect = Emptied; domain = d′ } ≡ reduced d (a .kind) (a .value)
-  unfolding reduced settled
-  empties e = let n = no-room d (a .kind) (a .value) kind in rw (n, e)
-
   -- the words cross where the atom is contradicted
   pub held-contradiction : consistentWords w ≡ false → stepped s a ≡ record { answer = Contradiction (a .variable); state = s }
-  held-contradiction e = when-emptied s a (record { effect = Emptied; domain = d′ }) (empties (leaves e)) refl
+  held-contradiction e = stepped-case s a (λ r. r ≡ record { answer = Contradiction (a .variable); state = s }) (λ y. clash y (no-room d (a .kind) (a .value) kind))
+      (λ _ y. clash y (leaves e)) (λ _ _. refl)
 
   module _ (e : consistentWords w ≡ true) where
     abbrev s′ : VariableState
@@ -107,10 +100,9 @@ module _ (s : VariableState) (lower upper : List ℕ) (held : HeldWords s lower 
     ]
 
     -- else they are the bounds of the state after it
-    pub held-next : (stepped s a ≡ record { answer = Consistent; state = put s (a .variable) d′ })
-        × HeldWords (put s (a .variable) d′) (set lower (a .variable) (w .lower)) (set upper (a .variable) (w .upper))
+    pub held-next : (stepped s a ≡ record { answer = Consistent; state = s′ }) × HeldWords s′ lower′ upper′
     held-next = (
-      when-narrowed s a (record { effect = Narrowed; domain = d′ }) (narrows (leaves e)) refl,
+      stepped-case s a (λ r. r ≡ record { answer = Consistent; state = s′ }) (λ y. clash y (no-room d (a .kind) (a .value) kind)) (λ _ _. refl) (λ _ n. clash (leaves e) n),
       record {
         lower-size = length-set lower (a .variable) (w .lower) ∙ held .lower-size;
         upper-size = length-set upper (a .variable) (w .upper) ∙ held .upper-size;

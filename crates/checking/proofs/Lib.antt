@@ -1,3 +1,4 @@
+pub mod Choices
 pub mod Atoms
 pub mod RightWords
 pub mod ReadWords
@@ -5,6 +6,7 @@ pub mod Given
 pub mod Remaining
 pub mod DomainBounds
 pub mod Domains
+pub mod Sides
 pub mod NarrowedDomains
 pub mod AcceptedDomains
 pub mod Values

@@ -1,16 +1,14 @@
 -- What one atom, and a list of atoms, make of the values that a state admits.
 use mathlib.Core.Path.{_≡_, refl, sym, ap, _∙_, subst}
-use mathlib.Core.Logic.{_⊎_, inl, inr, _↔_}
-use mathlib.Core.Bool.{true, false, cond}
+use mathlib.Core.Logic.{_↔_}
+use mathlib.Core.Bool.{true, cond}
 use mathlib.Core.List.{List, [], _∷_, _++_}
 use Prim.Native.Nat.{ℕ, _<_}
+use native.Mathlib.Decide.{ℕ-discrete}
 use native.Mathlib.Omega.{arith}
-use borrow.Author.Tests.{eqb-true, eqb-false}
-use lib.Dec.{eqb}
 use lib.IntN.{ℤ}
 use lib.ListN.{getD-replicate}
 use Rattle.integers.specs.Limits.{VARIABLES}
-use Rattle.integers.proofs.Bools.{bool}
 use Rattle.scheduling.specs.Scheduling.{Atom, Allows, Every, Admits}
 use Rattle.integers.proofs.WholeNumbers.{has-none}
 use Rattle.checking.specs.declared.domain.Domain.{Domain}
@@ -25,7 +23,7 @@ use Rattle.checking.specs.declared.variable_state.Applied.{Applied}
 use Rattle.checking.specs.States.{AcceptedState, noDomain, domainAt, put, emptyState, stepped, applyAll}
 use Rattle.checking.specs.Answers.{applicationNumbers}
 use Rattle.checking.specs.Promises.{Narrows, Excludes, lacksRoom}
-use Rattle.checking.proofs.States.{put-same, put-other, stepped-case, stepped-accepted, all-case, all-end, all-consistent, all-contradiction, all-refused}
+use Rattle.checking.proofs.States.{put-same, put-other, stepped-case, stepped-accepted, all-case, all-end, all-consistent}
 
 -- ---- answers differ
 abbrev pub code : Application → ℕ
@@ -35,12 +33,6 @@ code (Refused n) = 2
 
 pub differ {ℓ} : {X : Type ℓ} (a b : Application) → a ≡ b → (code a ≡ code b → ⊥) → X
 differ a b e n = absurd (n (ap code e))
-
-pub same-variable : (x y : ℕ) → Contradiction x ≡ Contradiction y → x ≡ y
-same-variable x y e = cc
-
-pub same-number : (x y : ℕ) → Refused x ≡ Refused y → x ≡ y
-same-number x y e = cc
 
 -- ---- one atom
 module _ (s : VariableState) (a : Atom) (acc : AcceptedState s) (known : a .variable < VARIABLES) where
@@ -69,11 +61,11 @@ module _ (s : VariableState) (a : Atom) (acc : AcceptedState s) (known : a .vari
   step-contradiction y = stepped-case s a (λ r. r .answer ≡ Contradiction y → (y ≡ a .variable) × (r .state ≡ s) × Excludes s a)
       (λ _ e. differ (Refused 21) (Contradiction y) e (omega arith))
       (λ _ _ e. differ Consistent (Contradiction y) e (omega arith))
-      (λ p q e. (sym (same-variable (a .variable) y e), refl, λ z m h. crossed-none d′ q z (applied-leaves d (a .kind) (a .value) (acc .each (a .variable) known .tight) p .of z m h)))
+      (λ p q e. (cc, refl, λ z m h. crossed-none d′ q z (applied-leaves d (a .kind) (a .value) (acc .each (a .variable) known .tight) p .of z m h)))
 
   pub step-refused : (n : ℕ) → stepped s a .answer ≡ Refused n → (n ≡ 21) × (stepped s a .state ≡ s) × (lacksRoom s a ≡ true)
   step-refused n = stepped-case s a (λ r. r .answer ≡ Refused n → (n ≡ 21) × (r .state ≡ s) × (lacksRoom s a ≡ true))
-      (λ p e. (sym (same-number 21 n e), refl, p))
+      (λ p e. (cc, refl, p))
       (λ _ _ e. differ Consistent (Refused n) e (omega arith))
       (λ _ _ e. differ (Contradiction (a .variable)) (Refused n) e (omega arith))
 
@@ -82,17 +74,10 @@ module _ (s : VariableState) (a : Atom) (acc : AcceptedState s) (known : a .vari
 
   -- what each variable then admits
   pub step-admits : stepped s a .answer ≡ Consistent → (x : ℕ) (z : ℤ) → Admitted (domainAt (stepped s a .state) x) z ↔ (Admitted (domainAt s x) z × (a .variable ≡ x → Allows a z))
-  step-admits e x z = by (bool (eqb x (a .variable)))
-    where
-      by : (eqb x (a .variable) ≡ true) ⊎ (eqb x (a .variable) ≡ false) → Admitted (domainAt (stepped s a .state) x) z ↔ (Admitted (domainAt s x) z × (a .variable ≡ x → Allows a z))
-      by (inl y) =
-          let q : x ≡ a .variable = eqb-true x (a .variable) y in
-          let r = step-consistent e .admits z in
-          subst (λ (i : ℕ). Admitted (domainAt (stepped s a .state) i) z ↔ (Admitted (domainAt s i) z × (a .variable ≡ i → Allows a z))) (sym q)
-          (λ m. (r .0 m .0, λ _. r .0 m .1), λ m. r .1 (m .0, m .1 refl))
-      by (inr n) =
-          let o = step-consistent e .others x (eqb-false x (a .variable) n) in
-          (λ m. (subst (λ (b : Domain). Admitted b z) o m, λ q. absurd (eqb-false x (a .variable) n (sym q))), λ m. subst (λ (b : Domain). Admitted b z) (sym o) (m .0))
+  step-admits e x z = elim (ℕ-discrete x (a .variable)) [
+    | yes q ↦ (let r = step-consistent e .admits z in rw q (λ m. (r .0 m .0, λ _. r .0 m .1), λ m. r .1 (m .0, m .1 refl)))
+    | no n ↦ rw (step-consistent e .others x n) (λ m. (m, λ q. absurd (n (sym q))), λ m. m .0)
+  ]
 
 -- ---- a list of atoms
 abbrev pub Known : List Atom → Type 0
@@ -112,16 +97,9 @@ all-admits (a ∷ rest) k s acc e x z =
 -- a consistent list, and then others
 pub all-append : (xs ys : List Atom) (s t : VariableState) → applyAll xs s ≡ record { answer = Consistent; state = t } → applyAll (xs ++ ys) s ≡ applyAll ys t
 all-append [] ys s t e = ap (applyAll ys) (ap (λ (r : Applied). r .state) (sym (all-end s) ∙ e))
-all-append (a ∷ xs) ys s t e = by (stepped s a .answer) refl (λ n. all-append xs ys (stepped s a .state) t (sym (all-consistent s a xs (stepped s a .state) (was Consistent n)) ∙ e))
-  where
-    was : (w : Application) → stepped s a .answer ≡ w → stepped s a ≡ record { answer = w; state = stepped s a .state }
-    was w n = λ i. record { answer = n i; state = stepped s a .state }
-
-    by : (w : Application) → stepped s a .answer ≡ w → (stepped s a .answer ≡ Consistent → applyAll (xs ++ ys) (stepped s a .state) ≡ applyAll ys t) → applyAll (a ∷ xs ++ ys) s ≡ applyAll ys t
-    by Consistent n ih = all-consistent s a (xs ++ ys) (stepped s a .state) (was Consistent n) ∙ ih n
-    by (Contradiction x) n ih = differ (Contradiction x) Consistent (ap (λ (r : Applied). r .answer) (sym (all-contradiction s a xs x (stepped s a .state) (was (Contradiction x) n)) ∙ e))
-        (omega arith)
-    by (Refused m) n ih = differ (Refused m) Consistent (ap (λ (r : Applied). r .answer) (sym (all-refused s a xs m (stepped s a .state) (was (Refused m) n)) ∙ e)) (omega arith)
+all-append (a ∷ xs) ys s t e = all-case s a xs (λ r. r ≡ record { answer = Consistent; state = t } → applyAll (a ∷ xs ++ ys) s ≡ applyAll ys t)
+    (λ n q. all-consistent s a (xs ++ ys) n ∙ all-append xs ys (stepped s a .state) t q)
+    (λ x _ q. differ (Contradiction x) Consistent (ap (λ (r : Applied). r .answer) q) (omega arith)) (λ m _ q. differ (Refused m) Consistent (ap (λ (r : Applied). r .answer) q) (omega arith)) e
 
 -- where a list stops
 pub record Stops (atoms : List Atom) (s : VariableState) : Type 0 where
@@ -144,7 +122,7 @@ later-stops a rest s n p = record {
   after = p .after;
   split = ap (λ (l : List Atom). a ∷ l) (p .split);
   state = p .state;
-  reached = all-consistent s a (p .before) (stepped s a .state) (λ i. record { answer = n i; state = stepped s a .state }) ∙ p .reached;
+  reached = all-consistent s a (p .before) n ∙ p .reached;
   accepted-there = p .accepted-there;
   known-there = p .known-there;
 }
@@ -155,7 +133,7 @@ all-contradiction-at [] k s acc y = λ e. differ Consistent (Contradiction y) (s
 all-contradiction-at (a ∷ rest) k s acc y =
     all-case s a rest (λ r. r .answer ≡ Contradiction y → (p : Stops (a ∷ rest) s) × (p .atom .variable ≡ y) × (p .state ≡ r .state) × Excludes (p .state) (p .atom))
     (λ n q. let (p, u, v, w) = all-contradiction-at rest (k .1) (stepped s a .state) (stepped-accepted s a acc (k .0)) y q in (later-stops a rest s n p, u, v, w))
-    (λ x n q. let (u, v, w) = step-contradiction s a acc (k .0) x n in (here-stops a rest s acc (k .0), sym u ∙ same-variable x y q, refl, w))
+    (λ x n q. let (u, v, w) = step-contradiction s a acc (k .0) x n in let e : x ≡ y = cc in (here-stops a rest s acc (k .0), sym u ∙ e, refl, w))
     (λ m _ q. differ (Refused m) (Contradiction y) q (omega arith))
 
 pub all-refused-at : (atoms : List Atom) → Known atoms → (s : VariableState) → AcceptedState s → (n : ℕ) → applyAll atoms s .answer ≡ Refused n
@@ -165,11 +143,11 @@ all-refused-at (a ∷ rest) k s acc n =
     all-case s a rest (λ r. r .answer ≡ Refused n → (n ≡ 21) × (r .state ≡ emptyState) × (p : Stops (a ∷ rest) s) × (lacksRoom (p .state) (p .atom) ≡ true))
     (λ m q. let (u, v, p, w) = all-refused-at rest (k .1) (stepped s a .state) (stepped-accepted s a acc (k .0)) n q in (u, v, later-stops a rest s m p, w))
     (λ x _ q. differ (Contradiction x) (Refused n) q (omega arith))
-    (λ m e q. let (u, v, w) = step-refused s a acc (k .0) m e in (sym (same-number m n q) ∙ u, refl, here-stops a rest s acc (k .0), w))
+    (λ m e q. let (u, v, w) = step-refused s a acc (k .0) m e in (cc, refl, here-stops a rest s acc (k .0), w))
 
 -- ---- from the empty state
 pub empty-admits : (x : ℕ) → x < VARIABLES → (z : ℤ) → Admitted (domainAt emptyState x) z
-empty-admits x h z = subst (λ (d : Domain). Admitted d z) (sym (getD-replicate VARIABLES x allIntegers noDomain h)) any
+empty-admits x h z = rw (getD-replicate VARIABLES x allIntegers noDomain h) any
   where
     any : Admitted allIntegers z
     any = made-admits NegativeInf PositiveInf [] z refl refl (has-none z)

@@ -1,26 +1,25 @@
 -- One state for one meaning: lists of atoms that leave each variable the same values leave the same state, in whatever sequence and however often applied.
 use mathlib.Core.Path.{_≡_, refl, sym, ap, subst, _∙_}
 use mathlib.Core.Logic.{_↔_}
-use mathlib.Core.Bool.{true, false, not, _&&_}
+use mathlib.Core.Bool.{true, false}
 use mathlib.Core.List.{List, [], _∷_, _++_}
 use mathlib.Core.Option.{Option, some, none}
 use Prim.Native.Nat.{ℕ, zero, suc, _+_, _*_, _≤_, _<_}
 use native.Mathlib.Omega.{arith}
-use lib.Dec.{leb, ltb}
+use lib.Dec.{ltb}
 use lib.IntN.{ℤ, pos}
 use lib.ListN.{length, getD, length-append}
 use borrow.Author.Tests.{not-true, le-ltb}
-use Rattle.integers.specs.Limits.{VARIABLES, HOLES, PREMISES}
+use Rattle.integers.specs.Limits.{VARIABLES, PREMISES}
 use Rattle.integers.proofs.Bools.{clash, and-true}
 use Rattle.scheduling.specs.Scheduling.{Atom, Compares, Allows, Every, Admits, given, negation}
 use Rattle.scheduling.proofs.Every.{every-append, every-left, every-at, every-right}
-use Rattle.integers.specs.WholeNumbers.{has}
 use Rattle.checking.specs.Atoms.{atomsOf, consequentOf, rightWords, rightLists}
-use Rattle.checking.proofs.Atoms.{given-none, right-lists}
+use Rattle.checking.proofs.Atoms.{consequent-none, right-lists}
 use Rattle.checking.proofs.RightWords.{words-each, words-append, atoms-append}
 use Rattle.checking.specs.declared.int_ext.IntExt.the-variants.{Int}
 use Rattle.checking.specs.declared.domain.Domain.{Domain}
-use Rattle.checking.specs.Domains.{Admitted, holesOf, between, crowded, needsRoom, ltExt}
+use Rattle.checking.specs.Domains.{Admitted, crowded, needsRoom}
 use Rattle.checking.proofs.DomainBounds.{lt-to-le}
 use Rattle.checking.proofs.Values.{some-value}
 use Rattle.checking.specs.declared.variable_state.VariableState.{VariableState}
@@ -31,13 +30,13 @@ use Rattle.checking.proofs.Meaning.{Known, all-append, step-admits, ste
 use Rattle.checking.proofs.PreparedStates.{prepared-accepted, prepared-admits, prepared-right}
 use Rattle.checking.proofs.Remaining.{prepared-runs}
 use Rattle.checking.proofs.Promises.{prepare-means, given-known, same-state}
-use Rattle.checking.proofs.States.{stepped-accepted, all-consistent, all-end}
+use Rattle.checking.proofs.States.{stepped-accepted, all-on, all-end}
 
 -- Two premise lists --------------------------------------------------------------------------------------------------------------
 
 -- the atoms of a list that is applied without a consequent
 no-consequent : (p : List ℤ) → given (atomsOf p) (consequentOf []) ≡ atomsOf p
-no-consequent p = given-none (atomsOf p) [] refl
+no-consequent p = ap (given (atomsOf p)) (consequent-none [] refl)
 
 module _ (p q : List ℤ) (ok-p : prepared p [] .answer ≡ Consistent) (ok-q : prepared q [] .answer ≡ Consistent) where
   abbrev s : VariableState
@@ -82,10 +81,10 @@ shuffled-same p q ok-p ok-q s = one-meaning p q ok-p ok-q (λ x h z.
 crowded-admits : (d : Domain) (v : ℤ) → crowded d v ≡ true → Admitted d v
 unfolding crowded
 crowded-admits d v e =
-    let (b, r) = and-true (between d v) (not (has (holesOf d) v) && leb HOLES (d .count)) e in
-    let (l, u) = and-true (ltExt (d .«lower_bound») (Int v)) (ltExt (Int v) (d .«upper_bound»)) b in
-    let (n, m) = and-true (not (has (holesOf d) v)) (leb HOLES (d .count)) r in
-    record { from = lt-to-le (d .«lower_bound») (Int v) l; to = lt-to-le (Int v) (d .«upper_bound») u; no-hole = not-true (has (holesOf d) v) n }
+    let (b, r) = and-true _ _ e in
+    let (l, u) = and-true _ _ b in
+    let (n, m) = and-true _ _ r in
+    record { from = lt-to-le (d .«lower_bound») (Int v) l; to = lt-to-le (Int v) (d .«upper_bound») u; no-hole = not-true _ n }
 
 -- an atom that every admitted value meets needs none
 met-room : (d : Domain) (k : ℕ) (v : ℤ) → ((z : ℤ) → Admitted d z → Compares k v z) → needsRoom d k v ≡ true → ⊥
@@ -119,7 +118,7 @@ each-met (a ∷ rest) known s acc met =
 -- and with the list
 met-all : (atoms : List Atom) (s : VariableState) → Every (λ a. stepped s a ≡ record { answer = Consistent; state = s }) atoms → applyAll atoms s ≡ record { answer = Consistent; state = s }
 met-all [] s e = all-end s
-met-all (a ∷ rest) s e = all-consistent s a rest s (e .0) ∙ met-all rest s (e .1)
+met-all (a ∷ rest) s e = all-on s a rest _ (e .0) ∙ met-all rest s (e .1)
 
 module _ (p : List ℤ) (ok : prepared p [] .answer ≡ Consistent) where
   abbrev left : VariableState

@@ -1,7 +1,7 @@
 -- Laws on a prepared state, for the checker: what it admits, and when it succeeds.
 use mathlib.Core.Path.{_≡_, refl, ap, _∙_}
 use mathlib.Core.Logic.{_↔_}
-use mathlib.Core.Bool.{Bool, true, false, cond}
+use mathlib.Core.Bool.{true, false}
 use mathlib.Core.List.{List, [], _∷_}
 use Prim.Native.Nat.{ℕ, zero, suc, _+_, _*_, _≤_, _<_}
 use native.Mathlib.Omega.{arith}
@@ -11,6 +11,7 @@ use lib.ListN.{length}
 use Rattle.integers.specs.Limits.{VARIABLES, PREMISES}
 use Rattle.integers.proofs.Bools.{clash}
 use Rattle.scheduling.specs.Scheduling.{Atom, Every, Admits, given}
+use Rattle.checking.proofs.Choices.{choice}
 use Rattle.checking.specs.Atoms.{atomsOf, consequentOf, rightLists}
 use Rattle.checking.specs.declared.domain.Domain.{Domain}
 use Rattle.checking.specs.Domains.{Admitted, needsRoom}
@@ -50,13 +51,7 @@ module _ (premises consequent : List ℤ) where
   pub ran : (P : Applied → Type 0) → (rightLists premises consequent ≡ true → P (applyAll atoms emptyState)) → ((n : ℕ) → P (record { answer = Refused n; state = emptyState }))
       → P (prepared premises consequent)
   unfolding prepared
-  ran P f g = by (ltb (3 * PREMISES + 2) (length premises)) (rightLists premises consequent) refl
-    where
-      by : (a b : Bool) → rightLists premises consequent ≡ b
-          → P (cond a (record { answer = Refused 7; state = emptyState }) (cond b (applyAll atoms emptyState) (record { answer = Refused 6; state = emptyState })))
-      by true b q = g 7
-      by false true q = f q
-      by false false q = g 6
+  ran P f g = choice P (ltb (3 * PREMISES + 2) (length premises)) (λ _. g 7) (λ _. choice P (rightLists premises consequent) f (λ _. g 6))
 
   pub prepared-right : prepared premises consequent .answer ≡ Consistent → rightLists premises consequent ≡ true
   prepared-right = ran (λ r. r .answer ≡ Consistent → rightLists premises consequent ≡ true) (λ r _. r) (λ n e. differ (Refused n) Consistent e (omega arith))

@@ -1,7 +1,7 @@
 -- The open calls' definitions keep the promises.
 use mathlib.Core.Path.{_≡_, refl, sym, ap, _∙_, subst}
 use mathlib.Core.Logic.{_↔_}
-use mathlib.Core.Bool.{Bool, true, false, cond}
+use mathlib.Core.Bool.{true, false}
 use mathlib.Core.List.{List, [], _∷_}
 use Prim.Native.Nat.{ℕ, _+_, _*_, _≤_, _<_}
 use native.Mathlib.Omega.{arith}
@@ -14,13 +14,14 @@ use Rattle.integers.specs.Answers.{answered, refusedBy}
 use Rattle.integers.specs.Limits.{VARIABLES, PREMISES}
 use Rattle.integers.proofs.Bools.{clash}
 use Rattle.scheduling.specs.Scheduling.{Atom, given}
+use Rattle.checking.proofs.Choices.{choice}
 use Rattle.checking.specs.Atoms.{atomFrom, atomsOf, consequentOf, rightVariable, rightAtom, rightLists}
 use Rattle.checking.proofs.Atoms.{right-atom, right-variable, given-each}
 use Rattle.checking.specs.declared.int_ext.IntExt.{IntExt}
 use Rattle.checking.specs.declared.int_ext.IntExt.the-variants.{Int, NegativeInf, PositiveInf}
 use Rattle.checking.specs.declared.domain.Domain.{Domain}
 use Rattle.checking.specs.Domains.{Admitted, isTrue}
-use Rattle.checking.proofs.Values.{lower-least, upper-largest, lower-none, upper-none, not-plus, not-minus, true-all, true-not, same-values}
+use Rattle.checking.proofs.Values.{lower-least, upper-largest, lower-none, upper-none, never-is, true-all, true-not, same-values}
 use Rattle.checking.specs.declared.variable_state.VariableState.{VariableState}
 use Rattle.checking.specs.declared.variable_state.Application.the-variants.{Consistent, Contradiction, Refused}
 use Rattle.checking.specs.declared.variable_state.Applied.{Applied}
@@ -28,9 +29,10 @@ use Rattle.checking.specs.declared.variable_state.Truth.{Truth}
 use Rattle.checking.specs.declared.variable_state.Truth.the-variants as truth
 use Rattle.checking.specs.declared.variable_state.Bound.{Bound}
 use Rattle.checking.specs.declared.variable_state.Bound.the-variants as bound
+use Rattle.checking.specs.declared.variable_state.Side.the-variants.{Lower, Upper}
 use Rattle.checking.specs.Answers.{applicationNumbers, AppliedAs, truthNumbers, boundNumbers}
 use Rattle.checking.specs.States.{AcceptedState, Sized, noDomain, domainAt, emptyState, accepted, stepped, appliedTo, truthOf, boundOf, lowerOf, upperOf, applyAll, prepared}
-use Rattle.checking.specs.Promises.{lacksRoom, queryRefusal, EmptyMeans, ApplyMeans, TruthMeans, LowerMeans, UpperMeans, Reaches, PrepareMeans}
+use Rattle.checking.specs.Promises.{applyRefusal, queryRefusal, EmptyMeans, ApplyMeans, TruthMeans, LowerMeans, UpperMeans, Reaches, PrepareMeans}
 use Rattle.checking.proofs.StateNumbers.{other-kind, applications-apart, ext-number, exts-apart}
 use Rattle.checking.proofs.AcceptedStates.{state-accepted, proper-state}
 use Rattle.checking.proofs.Meaning.{step-consistent, step-contradiction, step-refused, step-number, Known, all-admits, Stops, all-contradiction-at, all-refused-at, empty-admits}
@@ -45,7 +47,7 @@ applied-as : {r t : Applied} → r ≡ t → AppliedAs t r
 applied-as e = record { answer = ap (λ (a : Applied). applicationNumbers (a .answer)) e; state = ap (λ (a : Applied). a .state) e }
 
 module _ (s : VariableState) (x k v : ℤ) (proper : accepted (s .domains) ≡ true → AcceptedState s) where
-  is-refused : (n : ℕ) → n ≡ cond (accepted (s .domains)) (cond (rightAtom x k v) (cond (lacksRoom s (atomFrom x k v)) 21 0) 6) 22 → ApplyMeans s x k v (record { answer = Refused n; state = s })
+  is-refused : (n : ℕ) → n ≡ applyRefusal s x k v → ApplyMeans s x k v (record { answer = Refused n; state = s })
   is-refused n e = record {
     number = e;
     refused = λ _ _. refl;
@@ -68,13 +70,8 @@ module _ (s : VariableState) (x k v : ℤ) (proper : accepted (s .domains) ≡ t
 
   pub apply-means : ApplyMeans s x k v (appliedTo s x k v)
   unfolding appliedTo
-  apply-means = by (accepted (s .domains)) refl (rightAtom x k v) refl
-    where
-      by : (a : Bool) → accepted (s .domains) ≡ a → (b : Bool) → rightAtom x k v ≡ b
-          → ApplyMeans s x k v (cond a (cond b (stepped s (atomFrom x k v)) (record { answer = Refused 6; state = s })) (record { answer = Refused 22; state = s }))
-      by true p true q = went p q
-      by true p false q = is-refused 6 (rw (p, q))
-      by false p b q = is-refused 22 (rw p)
+  apply-means = choice (ApplyMeans s x k v) (accepted (s .domains))
+      (λ p. choice (ApplyMeans s x k v) (rightAtom x k v) (λ q. went p q) (λ q. is-refused 6 (rw (p, q)))) (λ p. is-refused 22 (rw p))
 
   pub apply-promise : (r : Applied) → r ≡ appliedTo s x k v → AppliedAs (appliedTo s x k v) r × ApplyMeans s x k v r
   apply-promise r e = (applied-as e, subst (ApplyMeans s x k v) (sym e) apply-means)
@@ -86,22 +83,19 @@ module _ (s : VariableState) (x k v : ℤ) (proper : accepted (s .domains) ≡ t
 
   pub truth-means : TruthMeans s x k v (truthOf s x k v)
   unfolding truthOf
-  truth-means = by (accepted (s .domains)) refl (rightAtom x k v) refl (isTrue (domainAt s (natAbs x)) (natAbs k) v) refl
-    where
-      by : (a : Bool) → accepted (s .domains) ≡ a → (b : Bool) → rightAtom x k v ≡ b → (c : Bool) → isTrue (domainAt s (natAbs x)) (natAbs k) v ≡ c
-          → TruthMeans s x k v (cond a (cond b (cond c truth.True truth.False) (truth.Refused 6)) (truth.Refused 22))
-      by true p true q true t = record {
+  truth-means = choice (TruthMeans s x k v) (accepted (s .domains))
+      (λ p. choice (TruthMeans s x k v) (rightAtom x k v) (λ q. choice (TruthMeans s x k v) (isTrue (domainAt s (natAbs x)) (natAbs k) v)
+      (λ t. record {
         number = rw (p, q);
-        holds = λ _ z m. true-all (domainAt s (natAbs x)) (proper p .each (natAbs x) (right-atom x k v q .known)) (natAbs k) v t z m;
+        holds = λ _. true-all (domainAt s (natAbs x)) (proper p .each (natAbs x) (right-atom x k v q .known)) (natAbs k) v t;
         fails = λ e. other-kind (answered 0 []) (answered 1 []) e (omega arith);
-      }
-      by true p true q false t = record {
+      })
+      (λ t. record {
         number = rw (p, q);
         holds = λ e. other-kind (answered 1 []) (answered 0 []) e (omega arith);
         fails = λ _. true-not (domainAt s (natAbs x)) (proper p .each (natAbs x) (right-atom x k v q .known)) (natAbs k) v t;
-      }
-      by true p false q c t = truth-back 6 (rw (p, q))
-      by false p b q c t = truth-back 22 (rw p)
+      }))
+      (λ q. truth-back 6 (rw (p, q)))) (λ p. truth-back 22 (rw p))
 
   pub truth-promise : (r : Truth) → r ≡ truthOf s x k v → (truthNumbers r ≡ truthNumbers (truthOf s x k v)) × TruthMeans s x k v r
   truth-promise r e = (ap truthNumbers e, subst (TruthMeans s x k v) (sym e) truth-means)
@@ -114,12 +108,7 @@ module _ (s : VariableState) (x : ℤ) (proper : accepted (s .domains) ≡ true 
   bound-case : (side : Domain → IntExt) (P : Bound → Type 0) → (accepted (s .domains) ≡ true → rightVariable x ≡ true → P (bound.At (side d)))
       → ((n : ℕ) → n ≡ queryRefusal s (rightVariable x) → P (bound.Refused n)) → P (boundOf side s x)
   unfolding boundOf
-  bound-case side P f g = by (accepted (s .domains)) refl (rightVariable x) refl
-    where
-      by : (a : Bool) → accepted (s .domains) ≡ a → (b : Bool) → rightVariable x ≡ b → P (cond a (cond b (bound.At (side d)) (bound.Refused 6)) (bound.Refused 22))
-      by true p true q = f p q
-      by true p false q = g 6 (rw (p, q))
-      by false p b q = g 22 (rw p)
+  bound-case side P f g = choice P (accepted (s .domains)) (λ p. choice P (rightVariable x) (λ q. f p q) (λ q. g 6 (rw (p, q)))) (λ p. g 22 (rw p))
 
   pub lower-means : LowerMeans s x (boundOf lowerOf s x)
   lower-means = bound-case lowerOf (LowerMeans s x)
@@ -127,7 +116,7 @@ module _ (s : VariableState) (x : ℤ) (proper : accepted (s .domains) ≡ true 
         number = rw (p, q) (ext-number (lowerOf d));
         least = λ u e. lower-least d w u (exts-apart (lowerOf d) (Int u) e);
         unbounded = λ e. lower-none d w (exts-apart (lowerOf d) NegativeInf e);
-        never = λ e. not-plus d w (exts-apart (lowerOf d) PositiveInf e);
+        never = λ e. never-is d w Lower (exts-apart (lowerOf d) PositiveInf e);
       })
       (λ n e. record {
         number = e;
@@ -142,7 +131,7 @@ module _ (s : VariableState) (x : ℤ) (proper : accepted (s .domains) ≡ true 
         number = rw (p, q) (ext-number (upperOf d));
         largest = λ u e. upper-largest d w u (exts-apart (upperOf d) (Int u) e);
         unbounded = λ e. upper-none d w (exts-apart (upperOf d) PositiveInf e);
-        never = λ e. not-minus d w (exts-apart (upperOf d) NegativeInf e);
+        never = λ e. never-is d w Upper (exts-apart (upperOf d) NegativeInf e);
       })
       (λ n e. record {
         number = e;
@@ -197,13 +186,10 @@ module _ (premises consequent : List ℤ) where
 
   pub prepare-means : PrepareMeans premises consequent (prepared premises consequent)
   unfolding prepared
-  prepare-means = by (ltb (3 * PREMISES + 2) (length premises)) refl (rightLists premises consequent) refl
-    where
-      by : (a : Bool) → ltb (3 * PREMISES + 2) (length premises) ≡ a → (b : Bool) → rightLists premises consequent ≡ b
-          → PrepareMeans premises consequent (cond a (record { answer = Refused 7; state = emptyState }) (cond b (applyAll atoms emptyState) (record { answer = Refused 6; state = emptyState })))
-      by true p b q = let l = ltb-true (3 * PREMISES + 2) (length premises) p in list-back 7 (λ _. refl) (λ m _. absurd (omega arith)) (λ m _. omega arith)
-      by false p true q = list-went (ltb-false (3 * PREMISES + 2) (length premises) p) q
-      by false p false q = let l = ltb-false (3 * PREMISES + 2) (length premises) p in list-back 6 (λ m. absurd (omega arith)) (λ _ _. refl) (λ _ r. clash r q)
+  prepare-means = choice (PrepareMeans premises consequent) (ltb (3 * PREMISES + 2) (length premises))
+      (λ p. let l = ltb-true (3 * PREMISES + 2) (length premises) p in list-back 7 (λ _. refl) (λ m _. absurd (omega arith)) (λ m _. omega arith))
+      (λ p. let l = ltb-false (3 * PREMISES + 2) (length premises) p in choice (PrepareMeans premises consequent) (rightLists premises consequent) (λ q. list-went l q)
+      (λ q. list-back 6 (λ m. absurd (omega arith)) (λ _ _. refl) (λ _ r. clash r q)))
 
   pub prepare-promise : (r : Applied) → r ≡ prepared premises consequent → AppliedAs (prepared premises consequent) r × PrepareMeans premises consequent r
   prepare-promise r e = (applied-as e, subst (PrepareMeans premises consequent) (sym e) prepare-means)

@@ -24,7 +24,7 @@ use Rattle.checking.specs.States.{emptyState, stepped, applyAll, prepare
 use Rattle.checking.proofs.Meaning.{all-append}
 use Rattle.checking.proofs.Remaining.{prepared-runs}
 use Rattle.checking.proofs.Promises.{prepare-means}
-use Rattle.checking.proofs.States.{stepped-case, all-refused}
+use Rattle.checking.proofs.States.{stepped-case, all-on}
 
 -- an atom without room, once it is reached, refuses the list
 full-step : (s : VariableState) (a : Atom) → lacksRoom s a ≡ true → stepped s a ≡ record { answer = Refused 21; state = s }
@@ -34,7 +34,7 @@ full-list : (atoms : List Atom) (p : Reaches atoms) → lacksRoom (p .state) (p 
 full-list atoms p y =
     ap (λ (l : List Atom). applyAll l emptyState) (p .split)
     ∙ all-append (p .before) (p .atom ∷ p .after) emptyState (p .state) (p .reached)
-    ∙ all-refused (p .state) (p .atom) (p .after) 21 (p .state) (full-step (p .state) (p .atom) y)
+    ∙ all-on (p .state) (p .atom) (p .after) _ (full-step (p .state) (p .atom) y)
 
 module _ (ps cs : List ℤ) where
   abbrev numbers : Answer

@@ -7,6 +7,7 @@ use native.Mathlib.Omega.{arith}
 use lib.IntN.{ℤ}
 use Rattle.integers.specs.Answers.{Answer, refusedBy}
 use Rattle.integers.proofs.Bools.{bool, clash}
+use Rattle.checking.proofs.Choices.{choice}
 use Rattle.checking.specs.Atoms.{atomFrom, rightVariable, rightAtom}
 use Rattle.checking.specs.declared.variable_state.VariableState.{VariableState}
 use Rattle.checking.specs.Answers.{applicationNumbers, truthNumbers, boundNumbers}
@@ -26,14 +27,11 @@ module _ (s : VariableState) (sized : Sized s) where
     | inr y ↦ (λ z ok. clash (state-accepted (s .domains) ok) y, λ no. f y)
   ]
 
-  three : (p q : Bool) → _≡_ {A = ℕ} (cond p (cond q 21 0) 6) 22 → ⊥
-  three true true e = omega arith
-  three true false e = omega arith
-  three false q e = omega arith
-
   two : (p : Bool) → _≡_ {A = ℕ} (cond p 0 6) 22 → ⊥
-  two true e = omega arith
-  two false e = omega arith
+  two p = choice (λ (n : ℕ). n ≡ 22 → ⊥) p (λ _ e. omega arith) (λ _ e. omega arith)
+
+  three : (p q : Bool) → _≡_ {A = ℕ} (cond p (cond q 21 0) 6) 22 → ⊥
+  three p q = choice (λ (n : ℕ). n ≡ 22 → ⊥) p (λ _. choice (λ (n : ℕ). n ≡ 22 → ⊥) q (λ _ e. omega arith) (λ _ e. omega arith)) (λ _ e. omega arith)
 
   module _ (x k v : ℤ) where
     pub apply-22 : applicationNumbers (appliedTo s x k v .answer) ≡ refusedBy 22 ↔ (AcceptedState s → ⊥)

@@ -17,7 +17,7 @@ use Rattle.checking.specs.Atoms.{atomsOf, consequentOf, givenAt, rightLi
 use Rattle.checking.specs.States.{emptyState, stepped, applyAll, Applicable, prepared}
 use Rattle.checking.proofs.Atoms.{right-lists}
 use Rattle.checking.proofs.Given.{Next, givenFrom, given-start, right-start, given-end, next}
-use Rattle.checking.proofs.States.{all-consistent, all-contradiction, all-refused, all-end}
+use Rattle.checking.proofs.States.{all-on, all-end}
 
 module _ (p c : List ℤ) where
   -- the tests 7 and 6, past which all atoms are applied
@@ -71,7 +71,7 @@ module _ (p c : List ℤ) where
         record {
           known = n .known;
           value = n .value;
-          consistent = λ t z. record { within = n .within; right = n .right; whole = here ∙ all-consistent s a rest t z };
-          contradicts = λ x z. here ∙ all-contradiction s a rest x s z;
-          refused = λ k z. here ∙ all-refused s a rest k s z;
+          consistent = λ t z. record { within = n .within; right = n .right; whole = here ∙ all-on s a rest _ z };
+          contradicts = λ x z. here ∙ all-on s a rest _ z;
+          refused = λ k z. here ∙ all-on s a rest _ z;
         }

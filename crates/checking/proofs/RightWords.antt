@@ -10,7 +10,7 @@ use lib.ListN.{length, getD}
 use Rattle.integers.proofs.Bools.{clash, and-true, and-yes}
 use Rattle.scheduling.specs.Scheduling.{Atom, Every}
 use Rattle.checking.specs.Atoms.{atomFrom, atomsOf, rightAtom, rightWords, rightLists, RightAtom, RightWords, RightLists}
-use Rattle.checking.proofs.Atoms.{right-atom, atom-right, right-lists, lists-right}
+use Rattle.checking.proofs.Atoms.{words-by, right-atom, atom-right, right-lists, lists-right}
 
 -- what holds of the k-th atom's three words
 abbrev At : (ℤ → ℤ → ℤ → Type 0) → List ℤ → ℕ → Type 0
@@ -36,18 +36,12 @@ module _ (P : ℤ → ℤ → ℤ → Type 0) (x k v : ℤ) (l : List ℤ) (j : 
 -- Words ------------------------------------------------------------------------------------------------------------------------
 
 words-facts : (l : List ℤ) → rightWords l ≡ true → RightWords l
-unfolding rightWords
-words-facts [] y = record { count = 0; threes = refl; atom = λ k h. absurd (omega arith) }
-words-facts (x ∷ []) y = clash y refl
-words-facts (x ∷ k ∷ []) y = clash y refl
-words-facts (x ∷ k ∷ v ∷ l) y =
-    let (p, q) = and-true (rightAtom x k v) (rightWords l) y in
-    let r = words-facts l q in
-    record { count = suc (r .count); threes = omega (arith, r .threes); atom = λ j h. at r p j h }
+words-facts = words-by RightWords (record { count = 0; threes = refl; atom = λ k h. absurd (omega arith) })
+    (λ x k v l p r. record { count = suc (r .count); threes = omega (arith, r .threes); atom = at x k v l r p })
   where
-    at : (r : RightWords l) → rightAtom x k v ≡ true → (j : ℕ) → j < suc (r .count) → At RightAtom (x ∷ k ∷ v ∷ l) j
-    at r p zero h = right-atom x k v p
-    at r p (suc j) h = onward RightAtom x k v l j (r .atom j (omega arith))
+    at : (x k v : ℤ) (l : List ℤ) (r : RightWords l) → rightAtom x k v ≡ true → (j : ℕ) → j < suc (r .count) → At RightAtom (x ∷ k ∷ v ∷ l) j
+    at x k v l r p zero h = right-atom x k v p
+    at x k v l r p (suc j) h = onward RightAtom x k v l j (r .atom j (omega arith))
 
 words-test : (l : List ℤ) → RightWords l → rightWords l ≡ true
 unfolding rightWords
@@ -55,7 +49,7 @@ words-test [] w = refl
 words-test (x ∷ []) w = absurd (omega (arith, w .threes))
 words-test (x ∷ k ∷ []) w = absurd (omega (arith, w .threes))
 words-test (x ∷ k ∷ v ∷ l) w =
-    and-yes (rightAtom x k v) (rightWords l) (atom-right x k v (w .atom 0 (omega (arith, w .threes))))
+    and-yes _ _ (atom-right x k v (w .atom 0 (omega (arith, w .threes))))
     (words-test l (record { count = w .count - 1; threes = omega (arith, w .threes); atom = λ j h. back RightAtom x k v l j (w .atom (suc j) (omega arith)) }))
 
 pub words-are : (l : List ℤ) → rightWords l ≡ true ↔ RightWords l
@@ -83,16 +77,8 @@ words-each P (x ∷ a ∷ v ∷ l) y e (suc k) h =
 
 pub words-append : (p q : List ℤ) → rightWords p ≡ true → rightWords (p ++ q) ≡ rightWords q
 unfolding rightWords
-words-append [] q y = refl
-words-append (x ∷ []) q y = clash y refl
-words-append (x ∷ k ∷ []) q y = clash y refl
-words-append (x ∷ k ∷ v ∷ p) q y =
-    let (a, b) = and-true (rightAtom x k v) (rightWords p) y in
-    ap (λ (t : Bool). t && rightWords (p ++ q)) a ∙ words-append p q b
+words-append p q = words-by (λ l. rightWords (l ++ q) ≡ rightWords q) refl (λ x k v l a e. ap (λ (t : Bool). t && rightWords (l ++ q)) a ∙ e) p
 
 pub atoms-append : (p q : List ℤ) → rightWords p ≡ true → atomsOf (p ++ q) ≡ atomsOf p ++ atomsOf q
-unfolding rightWords atomsOf
-atoms-append [] q y = refl
-atoms-append (x ∷ []) q y = clash y refl
-atoms-append (x ∷ k ∷ []) q y = clash y refl
-atoms-append (x ∷ k ∷ v ∷ p) q y = ap (λ (l : List Atom). atomFrom x k v ∷ l) (atoms-append p q (and-true (rightAtom x k v) (rightWords p) y .1))
+unfolding atomsOf
+atoms-append p q = words-by (λ l. atomsOf (l ++ q) ≡ atomsOf l ++ atomsOf q) refl (λ x k v l a e. ap (λ (m : List Atom). atomFrom x k v ∷ m) e) p

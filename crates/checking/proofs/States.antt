@@ -1,7 +1,7 @@
 -- States: one atom, and a list of atoms, applied to a state.
 use native.Mathlib.Decide.{ℕ-discrete}
 use mathlib.Core.Path.{_≡_, refl, sym, ap, _∙_, subst}
-use mathlib.Core.Bool.{Bool, true, false, cond}
+use mathlib.Core.Bool.{true, false}
 use mathlib.Core.List.{List, [], _∷_}
 use Prim.Native.Nat.{ℕ, _<_}
 use native.Mathlib.Omega.{arith}
@@ -15,6 +15,7 @@ use Rattle.checking.specs.declared.int_ext.IntExt.the-variants.{Negative
 use Rattle.checking.specs.declared.domain.Domain.{Domain}
 use Rattle.checking.specs.declared.domain.Effect.the-variants.{Narrowed, Emptied, Full}
 use Rattle.checking.specs.declared.domain.Reduced.{Reduced}
+use Rattle.checking.proofs.Choices.{choice}
 use Rattle.checking.specs.Domains.{Tight, consistent, applied, needsRoom, settled, reduced, allIntegers, Proper}
 use Rattle.checking.proofs.NarrowedDomains.{made-tight, applied-leaves}
 use Rattle.checking.specs.declared.variable_state.VariableState.{VariableState}
@@ -30,17 +31,7 @@ module _ (d : Domain) (k : ℕ) (v : ℤ) where
       → (needsRoom d k v ≡ false → consistent (applied d k v) ≡ false → P (record { effect = Emptied; domain = applied d k v }))
       → P (reduced d k v)
   unfolding reduced settled
-  reduced-case P f g h = by (needsRoom d k v) refl (consistent (applied d k v)) refl
-    where
-      by : (a : Bool) → needsRoom d k v ≡ a → (b : Bool) → consistent (applied d k v) ≡ b
-          → P (cond a (record { effect = Full; domain = d }) (cond b (record { effect = Narrowed; domain = applied d k v }) (record { effect = Emptied; domain = applied d k v })))
-      by true p b q = f p
-      by false p true q = g p q
-      by false p false q = h p q
-
-  pub reduced-proper : Tight d → reduced d k v .effect ≡ Narrowed → Proper (reduced d k v .domain)
-  reduced-proper t = reduced-case (λ r. r .effect ≡ Narrowed → Proper (r .domain)) (λ _ e. absurd (let z : _≡_ {A = ℕ} 0 1 = cc in omega arith))
-      (λ p q _. record { tight = applied-leaves d k v t p .tight; ordered = q }) (λ _ _ e. absurd (let z : _≡_ {A = ℕ} 0 1 = cc in omega arith))
+  reduced-case P f g h = choice P (needsRoom d k v) f (λ p. choice P (consistent (applied d k v)) (g p) (h p))
 
 -- ---- states
 pub all-tight : Tight allIntegers
@@ -90,60 +81,46 @@ module _ (s : VariableState) (a : Atom) (rest : List Atom) where
     | Refused n ↦ record { answer = Refused n; state = emptyState }
   ]
 
-  pub all-on : applyAll (a ∷ rest) s ≡ resume (stepped s a)
+  pub all-on : (r : Applied) → stepped s a ≡ r → applyAll (a ∷ rest) s ≡ resume r
   unfolding applyAll
-  all-on = refl
+  all-on r e = ap resume e
 
-  pub all-consistent : (t : VariableState) → stepped s a ≡ record { answer = Consistent; state = t } → applyAll (a ∷ rest) s ≡ applyAll rest t
-  all-consistent t e = all-on ∙ ap resume e
-
-  pub all-contradiction : (x : ℕ) (t : VariableState) → stepped s a ≡ record { answer = Contradiction x; state = t } → applyAll (a ∷ rest) s ≡ record { answer = Contradiction x; state = s }
-  all-contradiction x t e = all-on ∙ ap resume e
-
-  pub all-refused : (n : ℕ) (t : VariableState) → stepped s a ≡ record { answer = Refused n; state = t } → applyAll (a ∷ rest) s ≡ record { answer = Refused n; state = emptyState }
-  all-refused n t e = all-on ∙ ap resume e
-
-pub all-end : (s : VariableState) → applyAll [] s ≡ record { answer = Consistent; state = s }
-unfolding applyAll
-all-end s = refl
-
--- ---- the first atom of a list, by cases
-module _ (s : VariableState) (a : Atom) (rest : List Atom) where
-  on-consistent : stepped s a .answer ≡ Consistent → applyAll (a ∷ rest) s ≡ applyAll rest (stepped s a .state)
-  on-consistent n = all-on s a rest ∙ rw n
-
-  on-contradiction : (x : ℕ) → stepped s a .answer ≡ Contradiction x → applyAll (a ∷ rest) s ≡ record { answer = Contradiction x; state = s }
-  on-contradiction x n = all-on s a rest ∙ rw n
-
-  on-refused : (m : ℕ) → stepped s a .answer ≡ Refused m → applyAll (a ∷ rest) s ≡ record { answer = Refused m; state = emptyState }
-  on-refused m n = all-on s a rest ∙ rw n
+  pub all-consistent : stepped s a .answer ≡ Consistent → applyAll (a ∷ rest) s ≡ applyAll rest (stepped s a .state)
+  all-consistent n = all-on (record { answer = Consistent; state = stepped s a .state }) (λ i. record { answer = n i; state = stepped s a .state })
 
   -- the three ways that a list goes on
   pub all-case : (P : Applied → Type 0) → (stepped s a .answer ≡ Consistent → P (applyAll rest (stepped s a .state)))
       → ((x : ℕ) → stepped s a .answer ≡ Contradiction x → P (record { answer = Contradiction x; state = s }))
       → ((m : ℕ) → stepped s a .answer ≡ Refused m → P (record { answer = Refused m; state = emptyState })) → P (applyAll (a ∷ rest) s)
+  unfolding applyAll
   all-case P f g h = by (stepped s a .answer) refl
     where
-      by : (w : Application) → stepped s a .answer ≡ w → P (applyAll (a ∷ rest) s)
-      by Consistent n = subst P (sym (on-consistent n)) (f n)
-      by (Contradiction x) n = subst P (sym (on-contradiction x n)) (g x n)
-      by (Refused m) n = subst P (sym (on-refused m n)) (h m n)
+      by : (w : Application) → stepped s a .answer ≡ w → P (resume (record { answer = w; state = stepped s a .state }))
+      by Consistent n = f n
+      by (Contradiction x) n = g x n
+      by (Refused m) n = h m n
 
--- one atom, by cases
-pub stepped-case : (s : VariableState) (a : Atom) (P : Applied → Type 0)
-    → (needsRoom (domainAt s (a .variable)) (a .kind) (a .value) ≡ true → P (record { answer = Refused 21; state = s }))
-    → (needsRoom (domainAt s (a .variable)) (a .kind) (a .value) ≡ false → consistent (applied (domainAt s (a .variable)) (a .kind) (a .value)) ≡ true
-    → P (record { answer = Consistent; state = put s (a .variable) (applied (domainAt s (a .variable)) (a .kind) (a .value)) }))
-    → (needsRoom (domainAt s (a .variable)) (a .kind) (a .value) ≡ false → consistent (applied (domainAt s (a .variable)) (a .kind) (a .value)) ≡ false
-    → P (record { answer = Contradiction (a .variable); state = s }))
-    → P (stepped s a)
-unfolding stepped
-stepped-case s a P f g h = reduced-case (domainAt s (a .variable)) (a .kind) (a .value) (λ r. P (outcome s a r)) f g h
+pub all-end : (s : VariableState) → applyAll [] s ≡ record { answer = Consistent; state = s }
+unfolding applyAll
+all-end s = refl
 
-pub stepped-accepted : (s : VariableState) (a : Atom) → AcceptedState s → a .variable < VARIABLES → AcceptedState (stepped s a .state)
-stepped-accepted s a acc h = stepped-case s a (λ r. AcceptedState (r .state)) (λ _. acc)
-    (λ p q. put-accepted s (a .variable) (applied (domainAt s (a .variable)) (a .kind) (a .value)) acc h
-    (record { tight = applied-leaves (domainAt s (a .variable)) (a .kind) (a .value) (acc .each (a .variable) h .tight) p .tight; ordered = q })) (λ _ _. acc)
+-- ---- one atom, by cases
+module _ (s : VariableState) (a : Atom) where
+  abbrev d : Domain
+  d = domainAt s (a .variable)
+
+  abbrev d′ : Domain
+  d′ = applied d (a .kind) (a .value)
+
+  pub stepped-case : (P : Applied → Type 0) → (needsRoom d (a .kind) (a .value) ≡ true → P (record { answer = Refused 21; state = s }))
+      → (needsRoom d (a .kind) (a .value) ≡ false → consistent d′ ≡ true → P (record { answer = Consistent; state = put s (a .variable) d′ }))
+      → (needsRoom d (a .kind) (a .value) ≡ false → consistent d′ ≡ false → P (record { answer = Contradiction (a .variable); state = s })) → P (stepped s a)
+  unfolding stepped
+  stepped-case P f g h = reduced-case d (a .kind) (a .value) (λ r. P (outcome s a r)) f g h
+
+  pub stepped-accepted : AcceptedState s → a .variable < VARIABLES → AcceptedState (stepped s a .state)
+  stepped-accepted acc h = stepped-case (λ r. AcceptedState (r .state)) (λ _. acc)
+      (λ p q. put-accepted s (a .variable) d′ acc h (record { tight = applied-leaves d (a .kind) (a .value) (acc .each (a .variable) h .tight) p .tight; ordered = q })) (λ _ _. acc)
 
 pub all-accepted : (atoms : List Atom) → Every (λ a. a .variable < VARIABLES) atoms → (s : VariableState) → AcceptedState s → AcceptedState (applyAll atoms s .state)
 all-accepted [] k s acc = subst (λ (r : Applied). AcceptedState (r .state)) (sym (all-end s)) acc

@@ -23,11 +23,11 @@ returns c =
 returns-2 : tie.Need-returns-2
 returns-2 c =
     let a = c .before .before .before .args in
-    let wrong = sym (c .before .lists-are-accepted .ensures) ∙ not-true (c .before .lists-are-accepted .result) (c .if2 .taken) in
+    let wrong = sym (c .before .lists-are-accepted .ensures) ∙ not-true _ (c .if2 .taken) in
     record { answer = ap (λ (r : Applied). r .answer) (sym (prepared-wrong (a .premises .now) (a .consequent .now) (omega arith) wrong)); bounds = λ e. differ (Refused 6) Consistent e (omega arith) }
 
 applicable : (c : tie.Else2) → Applicable (c .before .before .before .args .premises .now) (c .before .before .before .args .consequent .now)
-applicable c = record { few = omega arith; right = sym (c .before .lists-are-accepted .ensures) ∙ not-false (c .before .lists-are-accepted .result) (c .if2 .left) }
+applicable c = record { few = omega arith; right = sym (c .before .lists-are-accepted .ensures) ∙ not-false _ (c .if2 .left) }
 
 prepare-domains-requires : tie.Need-prepare-domains-requires
 prepare-domains-requires c κs =

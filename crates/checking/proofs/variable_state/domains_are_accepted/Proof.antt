@@ -26,14 +26,14 @@ returns : tie.Need-returns Inv-loop μ-loop
 returns c =
     let s = c .before .before .before .before .before in
     let l = c .before .before .before .before .loop in
-    let n : acceptedDomain (getD (s .args .t1) (l .i) noDomain) ≡ false = sym (c .before .is-accepted .ensures .0) ∙ not-true (c .before .is-accepted .result) (c .if1 .taken) in
+    let n : acceptedDomain (getD (s .args .t1) (l .i) noDomain) ≡ false = sym (c .before .is-accepted .ensures .0) ∙ not-true _ (c .if1 .taken) in
     (sym (sym (l .inv .1 .0) ∙ accepted-on (s .args .t1) (l .i) (omega (arith, s .good .0 .1 .0 .1)) ∙ rw n), never)
 
 loop-again : tie.Need-loop-again Inv-loop μ-loop
 loop-again c =
     let s = c .before .before .before .before .before in
     let l = c .before .before .before .before .loop in
-    let r = not-false (c .before .is-accepted .result) (c .if1 .left) in
+    let r = not-false _ (c .if1 .left) in
     let y : acceptedDomain (getD (s .args .t1) (l .i) noDomain) ≡ true = sym (c .before .is-accepted .ensures .0) ∙ r in
     let e : accepted (drop (l .i) (s .args .t1)) ≡ accepted (drop (l .i + 1) (s .args .t1)) = accepted-on (s .args .t1) (l .i) (omega (arith, s .good .0 .1 .0 .1)) ∙ rw y in
     (omega arith, (sym e ∙ l .inv .1 .0, below-more _ _ (l .inv .1 .1) (proper-domain (getD (s .args .t1) (l .i) noDomain) y (c .before .is-accepted .ensures .1 r))))

@@ -13,7 +13,8 @@ use Rattle.integers.specs.WholeNumbers.{Within}
 use Rattle.integers.proofs.WholeNumbers.{wider}
 use Rattle.checking.specs.declared.domain.Domain.{Domain}
 use Rattle.checking.specs.Domains.{without, settled, reduced}
-use Rattle.checking.proofs.NarrowedDomains.{lower-leaves, low-cut, high-cut, still-room}
+use Rattle.checking.specs.declared.variable_state.Side.the-variants.{Lower, Upper}
+use Rattle.checking.proofs.NarrowedDomains.{tightened-leaves, side-cut, still-room}
 use borrow.Author.Needs.{needs}
 use Rattle.checking.proofs.domain.Domain.apply.Statement.{statement}
 use Rattle.checking.proofs.domain.Domain.apply.Tie as tie
@@ -26,7 +27,7 @@ nearby : (s : tie.Start) → Within (VALUE + 2) (toZ w32 (ofZ w32 (s .args .valu
 nearby s = wider (VALUE + 1) (VALUE + 2) _ (omega arith) (near s)
 
 tighten-upper-bound-requires-2 : tie.Need-tighten-upper-bound-requires-2
-tighten-upper-bound-requires-2 c κs = let s = c .before .before .before in (rw (c .tighten-lower-bound2 .ensures) (lower-leaves (s .args .self) _ (s .pre .0) .tight), nearby s)
+tighten-upper-bound-requires-2 c κs = let s = c .before .before .before in (rw (c .tighten-lower-bound2 .ensures) (tightened-leaves Lower (s .args .self) _ (s .pre .0) .tight), nearby s)
 
 -- an answer for the value as it is read is one for the value
 answers : (s : tie.Start) {r : Reduced} → let a = s .args in r ≡ reduced (a .self) (kindOf (a .comparison)) (toZ w32 (ofZ w32 (a .value))) → r ≡ reduced (a .self) (kindOf (a .comparison)) (a .value)
@@ -37,7 +38,7 @@ unfolding reduced
 returns c = answers (c .before .before .before .before) (rw (c .before .before .enum-told4 .given .1, sym (c .before .is-crowded .ensures) ∙ c .if1 .taken))
 
 without-upper-requires : tie.Need-without-upper-requires
-without-upper-requires c κs = let s = c .before .before .before .before .before in (rw (c .without-lower .ensures) (low-cut (s .args .self) _ (s .pre .0) .tight), near s)
+without-upper-requires c κs = let s = c .before .before .before .before .before in (rw (c .without-lower .ensures) (side-cut Lower (s .args .self) _ (s .pre .0) .tight), near s)
 
 with-hole-requires : tie.Need-with-hole-requires
 with-hole-requires c κs =
@@ -45,7 +46,7 @@ with-hole-requires c κs =
     let s = tested .before .before .before in
     let d : Domain = s .args .self in
     let room = sym (tested .is-crowded .ensures) ∙ c .before .before .if1 .left in
-    rw (c .without-upper .ensures, c .before .without-lower .ensures) (high-cut _ _ (low-cut d _ (s .pre .0) .tight) .tight, still-room d _ (s .pre .0) room)
+    rw (c .without-upper .ensures, c .before .without-lower .ensures) (side-cut Upper _ _ (side-cut Lower d _ (s .pre .0) .tight) .tight, still-room d _ (s .pre .0) room)
 
 returns-2 : tie.Need-returns-2
 unfolding reduced

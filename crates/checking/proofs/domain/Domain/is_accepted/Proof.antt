@@ -19,7 +19,7 @@ asked c = c .before .before .before .args .self
 
 -- what each test that was passed says
 crossed-not : (c : tie.Else1) → leExt (asked c .«lower_bound») (asked c .«upper_bound») ≡ true
-crossed-not c = sym (c .before .le .ensures) ∙ not-false (c .before .le .result) (c .if1 .left)
+crossed-not c = sym (c .before .le .ensures) ∙ not-false _ (c .if1 .left)
 
 lower-right : (c : tie.Else2) → leExt PositiveInf (asked (c .before .before) .«lower_bound») ≡ false
 lower-right c = sym (c .before .le2 .ensures) ∙ c .if2 .left
@@ -34,7 +34,7 @@ past c = rw (crossed-not (c .before .before .before .before .before), lower-righ
 
 returns : tie.Need-returns
 unfolding acceptedDomain
-returns c = (rw (sym (c .before .le .ensures) ∙ not-true (c .before .le .result) (c .if1 .taken)), never)
+returns c = (rw (sym (c .before .le .ensures) ∙ not-true _ (c .if1 .taken)), never)
 
 returns-2 : tie.Need-returns-2
 unfolding acceptedDomain

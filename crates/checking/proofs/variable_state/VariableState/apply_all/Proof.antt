@@ -10,14 +10,13 @@ use Rattle.integers.specs.Limits.{VARIABLES}
 use Rattle.integers.proofs.Ints.{back-of}
 use Rattle.scheduling.specs.Scheduling.{Atom}
 use Rattle.checking.specs.Atoms.{kindOf, atomOf}
-use Rattle.checking.specs.declared.domain.Effect.the-variants.{Narrowed}
-use Rattle.checking.specs.declared.domain.Reduced.{Reduced}
-use Rattle.checking.specs.Domains.{reduced, Proper}
+use Rattle.checking.specs.declared.variable_state.Applied.{Applied}
+use Rattle.checking.specs.Domains.{reduced}
 use Rattle.checking.specs.declared.variable_state.Application.the-variants.{Refused}
 use Rattle.checking.specs.declared.variable_state.VariableState.{VariableState}
-use Rattle.checking.specs.States.{AcceptedState, domainAt, put, emptyState}
+use Rattle.checking.specs.States.{AcceptedState, domainAt, emptyState}
 use Rattle.checking.proofs.Remaining.{Remaining, words-fit, all-remain, none-remains, Turn, turn}
-use Rattle.checking.proofs.States.{empty-accepted, put-accepted, reduced-proper, when-narrowed, when-emptied, when-full}
+use Rattle.checking.proofs.States.{empty-accepted, stepped-accepted, when-narrowed, when-emptied, when-full}
 use borrow.Author.Needs.{needs}
 use Rattle.checking.proofs.variable_state.VariableState.apply_all.Statement.{statement}
 use Rattle.checking.proofs.variable_state.VariableState.apply_all.Tie as tie
@@ -99,11 +98,9 @@ loop-again c =
     let b = c .before .before .before in
     let r = b .apply .result in
     let e = c .before .enum-told .given .1 in
-    let acc = l b .loop .inv .0 in
-    let known = next (read b) .known in
-    let proper : Proper (r .domain) = subst (λ (q : Reduced). q .effect ≡ Narrowed → Proper (q .domain)) (sym (said b))
-    (reduced-proper (domainAt (s b) (a b .variable)) (a b .kind) (a b .value) (acc .each (a b .variable) known .tight)) e in
-    (put-accepted (s b) (a b .variable) (r .domain) acc known proper, next (read b) .consistent (put (s b) (a b .variable) (r .domain)) (when-narrowed (s b) (a b) r (said b) e))
+    let step = when-narrowed (s b) (a b) r (said b) e in
+    let accepted = stepped-accepted (s b) (a b) (l b .loop .inv .0) (next (read b) .known) in
+    (subst (λ (p : Applied). AcceptedState (p .state)) step accepted, next (read b) .consistent _ step)
 
 returns-3 : tie.Need-returns-3 Inv-loop μ-loop
 returns-3 c =

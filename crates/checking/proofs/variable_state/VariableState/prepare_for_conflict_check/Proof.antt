@@ -18,12 +18,12 @@ returns c =
 returns-2 : tie.Need-returns-2
 returns-2 c =
     let a = c .before .before .before .before .args in
-    let wrong = sym (c .before .before .lists-are-accepted .ensures) ∙ not-true (c .before .before .lists-are-accepted .result) (c .before .if2 .taken) in
+    let wrong = sym (c .before .before .lists-are-accepted .ensures) ∙ not-true _ (c .before .if2 .taken) in
     prepare-promise (a .premises .now) (a .consequent .now) _
     ((λ i. record { answer = Refused 6; state = c .default2 .ensures .0 i }) ∙ sym (prepared-wrong (a .premises .now) (a .consequent .now) (omega arith) wrong))
 
 apply-all-requires : tie.Need-apply-all-requires
-apply-all-requires c κs = record { few = omega arith; right = sym (c .before .lists-are-accepted .ensures) ∙ not-false (c .before .lists-are-accepted .result) (c .if2 .left) }
+apply-all-requires c κs = record { few = omega arith; right = sym (c .before .lists-are-accepted .ensures) ∙ not-false _ (c .if2 .left) }
 
 returns-3 : tie.Need-returns-3
 returns-3 c = let a = c .before .before .before .before .args in prepare-promise (a .premises .now) (a .consequent .now) _ (c .apply-all .ensures)
