@@ -1,13 +1,13 @@
 -- The atoms of the two explanations: what they are where the walks stop, what of the tasks they depend on, and how many they are.
-use mathlib.Core.Path.{_≡_, sym, ap, _∙_}
-use mathlib.Core.Bool.{true, false}
+use mathlib.Core.Path.{_≡_, refl, sym, ap, subst, _∙_}
+use mathlib.Core.Bool.{false}
 use mathlib.Core.List.{List, [], _∷_, _++_}
 use mathlib.Core.Logic.{inl, inr}
 use Prim.Native.Nat.{ℕ, zero, suc, _+_, _-_, _<_, min}
 use native.Mathlib.Omega.{arith}
 use native.Mathlib.Decide.{decLt}
 use lib.Dec.{eqb, ltb}
-use lib.ListN.{getD, take, drop}
+use lib.ListN.{length, getD, take, drop}
 use borrow.Author.Tests.{eq-eqb, ne-eqb, lt-ltb, le-ltb}
 use Rattle.integers.proofs.Bools.{bool}
 use Rattle.scheduling.specs.Scheduling.{natural, Tasks, Atom}
@@ -24,53 +24,45 @@ use Rattle.explanations.proofs.Parts.{first-tail}
 unmet-ltb : (a b : ℕ) → (a < b → ⊥) → ltb a b ≡ false
 unmet-ltb a b h = elim (decLt a b) [ yes z ↦ absurd (h z) | no z ↦ le-ltb a b (omega arith) ]
 
+-- A walk over tasks that last p hands out g where P holds of the task there, and else `step` of what it hands out from the next task on; `before` is the
+-- steps of several tasks.
+module _ (P : ℕ → ℕ → Type 0) (ds : List ℕ) (f g : ℕ → List ℕ → List Atom) (step : ℕ → List Atom → List Atom) (before : List ℕ → List Atom → List Atom)
+    (none : (l : List Atom) → before [] l ≡ l) (more : (k : ℕ) (ks : List ℕ) (l : List Atom) → before (k ∷ ks) l ≡ step k (before ks l))
+    (hit : (p k : ℕ) (ks : List ℕ) → P k p → f p (k ∷ ks) ≡ g p (k ∷ ks))
+    (miss : (p k : ℕ) (ks : List ℕ) → 0 < length ks → (P k p → ⊥) → f p (k ∷ ks) ≡ step k (f (p - getD ds k 0) ks)) where
+  walk-at : (p : ℕ) (ks : List ℕ) (x q : ℕ) → p ≡ lasts ds ks → First P ds ks x q → f p ks ≡ before (take x ks) (g q (drop x ks))
+  unfolding lasts
+  walk-at p [] x q t s = absurd (omega (arith, s .small))
+  walk-at p (k ∷ ks) zero q t s = let z : p ≡ q = omega (arith, s .rest) in hit p k ks (subst (P k) (sym z) (s .holds)) ∙ sym (none (g p (k ∷ ks))) ∙ ap (λ (q : ℕ). before [] (g q (k ∷ ks))) z
+  walk-at p (k ∷ ks) (suc x) q t s = miss p k ks (omega (arith, s .small)) (λ a. s .before 0 (omega arith) (subst (P k) t a))
+      ∙ ap (step k) (walk-at (p - getD ds k 0) ks x q (omega arith) (first-tail P ds k ks x q s)) ∙ sym (more k (take x ks) (g q (drop x ks)))
+
 module _ (o : ℕ) (es ds : List ℕ) where
   abbrev S : Tasks natural
   S = starting es ds
 
-  pub conflict-at : (lct p : ℕ) (ks : List ℕ) (x q : ℕ) → p ≡ lasts ds ks → First (Overloads es lct) ds ks x q → conflict o S lct p ks ≡ conflict-of o S lct q (getD es (getD ks x 0) 0) (drop x ks)
-  unfolding lasts
-  conflict-at lct p [] x q t f = absurd (omega (arith, f .small))
-  conflict-at lct p (k ∷ []) zero q t f = let z : q ≡ p = omega (arith, f .rest) in rw z (conflict-last o S lct p k)
-  conflict-at lct p (k ∷ j ∷ ks) zero q t f =
-      let z : q ≡ p = omega (arith, f .rest) in
-      let y : ltb lct (getD es k 0 + p) ≡ true = lt-ltb lct (getD es k 0 + p) (omega (arith, f .holds)) in
-      rw z (conflict-hit o S lct p k (j ∷ ks) y)
-  conflict-at lct p (k ∷ []) (suc x) q t f = absurd (omega (arith, f .small))
-  conflict-at lct p (k ∷ j ∷ ks) (suc x) q t f =
-      let y : ltb lct (getD es k 0 + p) ≡ false = unmet-ltb lct (getD es k 0 + p) (λ a. f .before 0 (omega arith) (omega arith)) in
-      conflict-miss o S lct p k j ks y ∙ conflict-at lct (p - getD ds k 0) (j ∷ ks) x q (omega arith) (first-tail (Overloads es lct) ds k (j ∷ ks) x q f)
+  pub conflict-at : (lct p : ℕ) (ks : List ℕ) (x q : ℕ) → p ≡ lasts ds ks → First (Overloads es lct) ds ks x q
+      → conflict o S lct p ks ≡ conflict-of o S lct q (getD es (getD (drop x ks) 0 0) 0) (drop x ks)
+  conflict-at lct = walk-at (Overloads es lct) ds (conflict o S lct) (λ q ks. conflict-of o S lct q (getD es (getD ks 0 0) 0) ks) (λ k l. l) (λ ks l. l) (λ l. refl) (λ k ks l. refl)
+      (λ p k ks h. conflict-hit o S lct p k ks (lt-ltb lct (getD es k 0 + p) h)) miss
+    where
+      miss : (p k : ℕ) (ks : List ℕ) → 0 < length ks → (Overloads es lct k p → ⊥) → conflict o S lct p (k ∷ ks) ≡ conflict o S lct (p - getD ds k 0) ks
+      miss p k [] some h = absurd (omega arith)
+      miss p k (j ∷ ks) some h = conflict-miss o S lct p k j ks (unmet-ltb lct (getD es k 0 + p) h)
 
-  module _ (i b lct : ℕ) where
-    abbrev Test : ℕ → ℕ → Type 0
-    Test = Precedes es lct (getD es i 0) (getD ds i 0)
-
-    pub propagation-at : (p : ℕ) (ks : List ℕ) (x q : ℕ) → p ≡ lasts ds ks → First Test ds ks x q
-        → propagation o S i b lct p ks ≡ propagation-of o S i b q (min (getD es i 0) (getD es (getD ks x 0) 0)) (drop x ks)
-    unfolding lasts
-    propagation-at p [] x q t f = absurd (omega (arith, f .small))
-    propagation-at p (k ∷ ks) zero q t f =
-        let z : q ≡ p = omega (arith, f .rest) in
-        let y : ltb lct (min (getD es i 0) (getD es k 0) + p + getD ds i 0) ≡ true = lt-ltb lct (min (getD es i 0) (getD es k 0) + p + getD ds i 0) (omega (arith, f .holds)) in
-        rw z (propagation-hit o S i b lct p k ks y)
-    propagation-at p (k ∷ ks) (suc x) q t f =
-        let y : ltb lct (min (getD es i 0) (getD es k 0) + p + getD ds i 0) ≡ false =
-        unmet-ltb lct (min (getD es i 0) (getD es k 0) + p + getD ds i 0) (λ a. f .before 0 (omega arith) (omega arith)) in
-        propagation-miss o S i b lct p k ks y ∙ propagation-at (p - getD ds k 0) ks x q (omega arith) (first-tail Test ds k ks x q f)
+  pub propagation-at : (i b lct p : ℕ) (ks : List ℕ) (x q : ℕ) → p ≡ lasts ds ks → First (Precedes es lct (getD es i 0) (getD ds i 0)) ds ks x q
+      → propagation o S i b lct p ks ≡ propagation-of o S i b q (min (getD es i 0) (getD es (getD (drop x ks) 0 0) 0)) (drop x ks)
+  propagation-at i b lct = walk-at (Precedes es lct (getD es i 0) (getD ds i 0)) ds (propagation o S i b lct)
+      (λ q ks. propagation-of o S i b q (min (getD es i 0) (getD es (getD ks 0 0) 0)) ks) (λ k l. l) (λ ks l. l) (λ l. refl) (λ k ks l. refl)
+      (λ p k ks h. propagation-hit o S i b lct p k ks (lt-ltb lct (min (getD es i 0) (getD es k 0) + p + getD ds i 0) h))
+      (λ p k ks some h. propagation-miss o S i b lct p k ks (unmet-ltb lct (min (getD es i 0) (getD es k 0) + p + getD ds i 0) h))
 
   -- the tasks before ω′ start at r or later, those of ω′ at its own est
   pub bounds-at : (b r last p : ℕ) (ks : List ℕ) (x q : ℕ) → p ≡ lasts ds ks → First (Attains es b) ds ks x q
       → bounds o S b r last p ks ≡ within o S r last (take x ks) ++ within o S (b - q) last (drop x ks)
-  unfolding lasts
-  bounds-at b r last p [] x q t f = absurd (omega (arith, f .small))
-  bounds-at b r last p (k ∷ ks) zero q t f =
-      let z : q ≡ p = omega (arith, f .rest) in
-      let y : eqb b (getD es k 0 + p) ≡ true = eq-eqb b (getD es k 0 + p) (omega (arith, f .holds)) in
-      rw (z, within-none o S r last) (bounds-hit o S b r last p k ks y)
-  bounds-at b r last p (k ∷ ks) (suc x) q t f =
-      let y : eqb b (getD es k 0 + p) ≡ false = ne-eqb b (getD es k 0 + p) (λ a. f .before 0 (omega arith) (omega arith)) in
-      rw (bounds-miss o S b r last p k ks y, within-more o S r last k (take x ks))
-      (ap (λ (l : List Atom). atLeast o S k r ∷ atMost o S k (last - getD ds k 0) ∷ l) (bounds-at b r last (p - getD ds k 0) ks x q (omega arith) (first-tail (Attains es b) ds k ks x q f)))
+  bounds-at b r last = walk-at (Attains es b) ds (bounds o S b r last) (λ q ks. within o S (b - q) last ks) (λ k l. atLeast o S k r ∷ atMost o S k (last - getD ds k 0) ∷ l)
+      (λ ks l. within o S r last ks ++ l) (λ l. rw (within-none o S r last)) (λ k ks l. rw (within-more o S r last k ks))
+      (λ p k ks h. bounds-hit o S b r last p k ks (eq-eqb b (getD es k 0 + p) (sym h))) (λ p k ks some h. bounds-miss o S b r last p k ks (ne-eqb b (getD es k 0 + p) (λ z. h (sym z))))
 
 -- Tasks that are alike --------------------------------------------------------------------------------------------------------
 

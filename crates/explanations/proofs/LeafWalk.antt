@@ -2,7 +2,7 @@
 use mathlib.Core.Path.{_≡_, sym, ap, subst, _∙_}
 use mathlib.Core.Bool.{Bool, true, false}
 use mathlib.Core.List.{List, [], _∷_, _++_}
-use Prim.Native.Nat.{ℕ, zero, suc, _+_, _-_, _≤_, _<_}
+use Prim.Native.Nat.{ℕ, zero, suc, _+_, _-_, _^_, _≤_, _<_}
 use native.Mathlib.Omega.{arith}
 use native.Mathlib.Numerals.{add-one}
 use native.Mathlib.Decide.{decLt, ℕ-discrete}
@@ -12,12 +12,8 @@ use Rattle.trees.specs.Searches.{thetaOf}
 use Rattle.trees.specs.ArraySearches.{Next}
 use Rattle.trees.proofs.WhiteTasks.{theta-none, theta-white, theta-skip}
 use Rattle.runs.proofs.WalkStops.{theta-append}
-use Rattle.explanations.specs.Walks.{lasts, Each, At, Somewhere, Walks, Meets, between, StopsAt}
+use Rattle.explanations.specs.Walks.{lasts, Each, At, Somewhere, Walks, Meets, between, StopsAt, Known, Walk}
 use Rattle.explanations.proofs.Places.{lasts-cons, lasts-drop}
-
--- the next white leaf is the first one from itself on
-pub next-again : {white : ℕ → Bool} {a n y : ℕ} → Next white a n y → Next white y n y
-next-again t = record { from = omega arith; to = t .to; passed = λ x s h. absurd (omega arith); found = t .found }
 
 module _ (white : ℕ → Bool) (task : ℕ → ℕ) where
   -- Stretches of leaves ---------------------------------------------------------------------------------------------------------
@@ -145,10 +141,10 @@ pub record WalkedTo (white : ℕ → Bool) (task : ℕ → ℕ) (P : ℕ → ℕ
   pub before : (y : ℕ) → y < length (between white task a x) → At P ds (between white task a n) y → ⊥
 
 module _ {white : ℕ → Bool} {task : ℕ → ℕ} {P : ℕ → ℕ → Type 0} {ds : List ℕ} {a n : ℕ} where
-  pub sets-out : {p x : ℕ} → p ≡ lasts ds (between white task a n) → Somewhere P ds (between white task a n) → Next white a n x → WalkedTo white task P ds a n x p
-  sets-out {p} {x} t s y =
-      let small : x < n = met-inside white task a n x (y .from) (y .to) (omega (arith, met-first white task y, s .small)) in
-      record { from = y .from; small = small; here = y .found small; rest = rw (met-first white task y) t; before = λ z h. absurd (omega (arith, met-first white task y)) }
+  pub sets-out : {es : List ℕ} {p d x : ℕ} → Walk P (between white task a n) es ds p d → Next white a n x → WalkedTo white task P ds a n x p
+  sets-out {x = x} g y =
+      let small : x < n = met-inside white task a n x (y .from) (y .to) (omega (arith, met-first white task y, g .stops .small)) in
+      record { from = y .from; small = small; here = y .found small; rest = rw (met-first white task y) (g .total); before = λ z h. absurd (omega (arith, met-first white task y)) }
 
   module _ {x q : ℕ} (w : WalkedTo white task P ds a n x q) where
     abbrev tasks : List ℕ
@@ -170,11 +166,19 @@ module _ {white : ℕ → Bool} {task : ℕ → ℕ} {P : ℕ → ℕ → Type 0
     pub enough-there : getD ds (task x) 0 ≤ q
     enough-there = omega (arith, next-lasts)
 
-    pub most-there : q ≤ lasts ds (between white task a n)
-    most-there = omega (arith, w .rest, lasts-drop ds tasks so-far)
+    module _ {es : List ℕ} {p d : ℕ} (g : Walk P (between white task a n) es ds p d) where
+      pub known-there : Known es ds (task x)
+      known-there = met-each white task a n x (w .from) (w .small) (w .here) (Known es ds) (g .known)
 
-    pub known-there : (Q : ℕ → Type 0) → Each Q (between white task a n) → Q (task x)
-    known-there Q h = met-each white task a n x (w .from) (w .small) (w .here) Q h
+      -- no sum wraps
+      pub sum-there : getD es (task x) 0 + q + d < 2 ^ 32
+      sum-there = omega (
+        arith,
+        w .rest,
+        lasts-drop ds tasks so-far,
+        g .total,
+        met-each white task a n x (w .from) (w .small) (w .here) (λ k. getD es k 0 + p + d < 2 ^ 32) (g .fits),
+      )
 
     -- the walk goes on to the next leaf: there is one, since the walk stops somewhere and has not so far
     pub walks-on : {y : ℕ} → Somewhere P ds (between white task a n) → (P (task x) q → ⊥) → Next white (x + 1) n y → WalkedTo white task P ds a n y (q - getD ds (task x) 0)
@@ -192,9 +196,3 @@ module _ {white : ℕ → Bool} {task : ℕ → ℕ} {P : ℕ → ℕ → Type 0
 
     pub halts : P (task x) q → StopsAt white task P ds a n x q
     halts h = record { from = w .from; small = w .small; here = w .here; first = record { small = there; rest = w .rest; holds = rw is h; before = w .before } }
-
--- a walk from a is the walk from the first white leaf there
-pub stops-from : (white : ℕ → Bool) (task : ℕ → ℕ) {P : ℕ → ℕ → Type 0} {ds : List ℕ} {a n y x q : ℕ} → Next white a n y → StopsAt white task P ds y n x q → StopsAt white task P ds a n x q
-stops-from white task {P} {ds} {a} {n} {y} {x} {q} t s =
-    let before : between white task a x ≡ between white task y x = between-split white task a y x (t .from) (s .from) ∙ ap (λ (l : List ℕ). l ++ between white task y x) (next-none white task t) in
-    record { from = omega (arith, t .from, s .from); small = s .small; here = s .here; first = rw (next-same white task t, before) (s .first) }

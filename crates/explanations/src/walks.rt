@@ -85,7 +85,8 @@ pub fn attaining(
     ensures { λ r. ⌜ StopsAt (whiteIn (now (nodes .entry)) inner) (taskIn (now («reverse_mapping» .entry)))
         (Attains (now (est .entry)) «new_bound») (now (durations .entry)) (from .0) n (r .first .0) (r .lasts) ⌝ }
 {
-    let mut x = ThetaLambdaTree::next_in_theta(nodes, inner, from, n);
+    let first = from.0;
+    let mut x = ThetaLambdaTree::next_in_theta(nodes, inner, LeafPlace(first), n);
     let mut p_omega_prime = p_omega;
     while of_leaf(est, reverse_mapping, x) + p_omega_prime != new_bound {
         p_omega_prime -= of_leaf(durations, reverse_mapping, x);

@@ -1,11 +1,12 @@
 -- The mirrored ranges may be run on; what the run leaves may be mirrored back, and is then the mirrored pass.
 use mathlib.Core.Path.{_≡_, refl, sym, ap, ap₂, subst, _∙_}
-use mathlib.Core.List.{List, [], _∷_}
+use mathlib.Core.List.{List, [], _∷_, _++_}
 use Prim.Native.Nat.{ℕ, _*_, _≤_, _<_}
 use native.Mathlib.Nat.{mul-le-mul}
 use native.Mathlib.Omega.{arith}
 use lib.IntN.{ℤ, pos}
-use lib.ListN.{length, getD, take, length-map}
+use lib.ListN.{length, getD, take, drop, length-map}
+use lib.Seq.{length-take-le, length-front, take-at}
 use lib.Signed.{_≤ℤ_}
 use mir.Syntax.{w32}
 use mir.Val.{SFits}
@@ -13,27 +14,26 @@ use Rattle.integers.specs.Limits.{TASKS, START, MIRRORED, ATOMS}
 use Rattle.integers.specs.Answers.{answered}
 use Rattle.integers.specs.Moments.{Above}
 use Rattle.integers.proofs.Ints.{up, dn, ints, fits-show}
-use Rattle.integers.proofs.MomentSums.{at-moment, above-up, more-above}
-use Rattle.scheduling.specs.Scheduling.{Atom, Every}
+use Rattle.integers.proofs.MomentSums.{at-moment, more-above}
+use Rattle.scheduling.specs.Scheduling.{Atom}
 use Rattle.scheduling.specs.MirroredTime.{mirrorStart, mirrorAtom}
 use Rattle.scheduling.specs.Words.{atomWords}
 use Rattle.scheduling.proofs.Words.{atoms-length}
 use Rattle.runs.specs.Traces.{End, done, overload, emptied, Trace}
-use Rattle.runs.specs.Demand.{consequentOf, post}
 use Rattle.runs.specs.Words.{reasons, postsAfter, atomsAfter, atomsIn}
 use Rattle.runs.specs.Mirrored.{mirrorStarts, durationIn, mirrorPost, mirrorEnd, mirrorTrace, mirroredRun}
 use Rattle.runs.proofs.WrittenSlices.{posts-length}
 use Rattle.runs.proofs.Demand as demand
 use Rattle.runs.proofs.Mirrored as laws
-use Rattle.runs.specs.MirroredWords.{Near}
 use Rattle.runs.proofs.StartsLeft.{starts-length}
 use Rattle.records.specs.declared.record.DisjunctivePropagator.{DisjunctivePropagator}
+use Rattle.records.specs.Records.{recordOf}
 use Rattle.records.specs.Refusals.{AcceptedRun}
 use Rattle.runs.specs.declared.outcome.Outcome.{Outcome}
 use Rattle.runs.specs.EndNumbers.{endNumbers, traceNumbers}
 use Rattle.propagator.specs.Ran.{Runnable, traceOf, RunLeft}
 use Rattle.propagator.proofs.AcceptedInput as accepting
-use Rattle.mirrored.specs.MirroredSlices.{StartsMirrorable, Durations, WordsMirrorable, WordsMirrored}
+use Rattle.mirrored.specs.MirroredSlices.{StartsMirrorable, WordsMirrorable, WordsMirrored}
 use Rattle.mirrored.specs.RanMirrored.{LeftMirrored}
 use Rattle.mirrored.specs.RanInMirror.{RanInMirror}
 
@@ -54,25 +54,25 @@ same-numbers ds t = (λ i. endNumbers (n i) (m i) (mirrorEnd ds (t .end))) ∙ e
 
 -- The pass -------------------------------------------------------------------------------------------------------------------------
 
--- numbers that are near are i32s
-wide-fits : (z : ℤ) → Above MIRRORED z → z ≤ℤ pos MIRRORED → SFits w32 z
+-- a number between two that are near is an i32
+near-fits : (a z b : ℤ) → Above MIRRORED a → a ≤ℤ z → z ≤ℤ b → b ≤ℤ pos MIRRORED → SFits w32 z
 unfolding up dn
-wide-fits z h k = fits-show w32 z (omega (ints, at-moment MIRRORED z h, k)) (omega (ints, at-moment MIRRORED z h, k))
+near-fits a z b h p q k = fits-show w32 z (omega (ints, at-moment MIRRORED a h)) (omega (ints, at-moment MIRRORED a h))
 
-lower : (a b : ℤ) → Above MIRRORED a → a ≤ℤ b → Above MIRRORED b
-lower a b h q = above-up MIRRORED a b q h
+-- An array of TASKS places, of which the first n were lent and are now `p`.
+pub record Fronted (n : ℕ) (p array : List ℤ) : Type 0 where
+  pub long : length array ≡ TASKS
+  pub lent : n ≤ length array
+  pub size : n ≡ length (take n array)
+  pub front : take n array ≡ p
 
-higher : (a b : ℤ) → a ≤ℤ b → b ≤ℤ pos MIRRORED → a ≤ℤ pos MIRRORED
-higher a b h k = omega ints
+pub fronted : (n : ℕ) (p old : List ℤ) → n ≤ TASKS → length old ≡ TASKS → length p ≡ length (take n old) → Fronted n p (p ++ drop n old)
+fronted n p old few z kept =
+    let long : length (p ++ drop n old) ≡ TASKS = length-front old p n kept ∙ z in
+    let lent : n ≤ length (p ++ drop n old) = omega arith in
+    record { long = long; lent = lent; size = sym (length-take-le n (p ++ drop n old) lent); front = take-at p (drop n old) n (kept ∙ length-take-le n old (omega arith)) }
 
-wider-low : (a : ℤ) → Above START a → Above MIRRORED a
-wider-low a h = more-above START MIRRORED (omega arith) a h
-
-wider-high : (a : ℤ) → a ≤ℤ pos START → a ≤ℤ pos MIRRORED
-unfolding up dn
-wider-high a h = omega ints
-
-module _ (before : DisjunctivePropagator) (es ls : List ℤ) (postCount atomCount : ℕ) (a : AcceptedRun before es ls postCount atomCount) (long : length (before .durations) ≡ TASKS) where
+module _ {before : DisjunctivePropagator} {es ls : List ℤ} {postCount atomCount : ℕ} (a : AcceptedRun before es ls postCount atomCount) (long : length (before .durations) ≡ TASKS) where
   abbrev n : ℕ
   n = before .count
 
@@ -80,21 +80,21 @@ module _ (before : DisjunctivePropagator) (es ls : List ℤ) (postCount atomCoun
   ds = take (before .count) (before .durations)
 
   abbrev early : List ℤ
-  early = mirrorStarts (take (before .count) (before .durations)) ls
+  early = mirrorStarts ds ls
 
   abbrev late : List ℤ
-  late = mirrorStarts (take (before .count) (before .durations)) es
+  late = mirrorStarts ds es
 
-  count : length ds ≡ n
+  pub count : length ds ≡ n
   count = accepting.count before (a .lawful)
 
-  here : demand.AcceptedTasks START ds es ls
+  pub here : demand.AcceptedTasks START ds es ls
   here = accepting.narrow before es ls postCount atomCount a
 
-  es-long : length es ≡ length ds
+  pub es-long : length es ≡ length ds
   es-long = a .counts .earliest ∙ sym count
 
-  ls-long : length ls ≡ length ds
+  pub ls-long : length ls ≡ length ds
   ls-long = a .counts .latest ∙ sym count
 
   there : demand.AcceptedTasks MIRRORED ds early late
@@ -103,7 +103,7 @@ module _ (before : DisjunctivePropagator) (es ls : List ℤ) (postCount atomCoun
   run-long : length (mirroredRun ds es ls .starts) ≡ length ds
   run-long = starts-length ds early late
 
-  lasts-at : (k : ℕ) → k < n → getD ds k 0 ≡ getD (before .durations) k 0
+  pub lasts-at : (k : ℕ) → k < n → getD ds k 0 ≡ getD (before .durations) k 0
   lasts-at k q = accepting.lasts-at before (a .lawful) k q
 
   -- starts that may be mirrored
@@ -118,17 +118,19 @@ module _ (before : DisjunctivePropagator) (es ls : List ℤ) (postCount atomCoun
   }
 
   pub latest-mirrorable : (out : List ℤ) → length out ≡ n → StartsMirrorable out ls (before .durations)
-  latest-mirrorable = starts-mirrorable ls ls-long (λ k q. wide-fits (getD early k (pos 0)) (there .from k q) (higher (getD early k (pos 0)) (getD late k (pos 0)) (there .ranges k q) (there .to k q)))
+  latest-mirrorable = starts-mirrorable ls ls-long
+      (λ k q. near-fits (getD early k (pos 0)) (getD early k (pos 0)) (getD late k (pos 0)) (there .from k q) (omega ints) (there .ranges k q) (there .to k q))
 
   pub earliest-mirrorable : (out : List ℤ) → length out ≡ n → StartsMirrorable out es (before .durations)
-  earliest-mirrorable = starts-mirrorable es es-long (λ k q. wide-fits (getD late k (pos 0)) (lower (getD early k (pos 0)) (getD late k (pos 0)) (there .from k q) (there .ranges k q)) (there .to k q))
+  earliest-mirrorable = starts-mirrorable es es-long
+      (λ k q. near-fits (getD early k (pos 0)) (getD late k (pos 0)) (getD late k (pos 0)) (there .from k q) (there .ranges k q) (omega ints) (there .to k q))
 
   -- and back
   back-fits : (k : ℕ) → k < length ds → SFits w32 (getD (mirrorStarts ds (mirroredRun ds es ls .starts)) k (pos 0))
   back-fits k q =
       let b = laws.latest-between ds es ls here es-long ls-long k q in
-      let z = getD (mirrorStarts ds (mirroredRun ds es ls .starts)) k (pos 0) in
-      wide-fits z (lower (getD es k (pos 0)) z (wider-low (getD es k (pos 0)) (here .from k q)) (b .0)) (higher z (getD ls k (pos 0)) (b .1) (wider-high (getD ls k (pos 0)) (here .to k q)))
+      near-fits (getD es k (pos 0)) _ (getD ls k (pos 0)) (more-above START MIRRORED (omega arith) (getD es k (pos 0)) (here .from k q)) (b .0) (b .1)
+      (accepting.wider (getD ls k (pos 0)) (here .to k q))
 
   -- the core may run in mirrored time,
   runnable : Runnable before early late postCount atomCount
@@ -166,8 +168,9 @@ module _ (before : DisjunctivePropagator) (es ls : List ℤ) (postCount atomCoun
     pub left-mirrorable : (out : List ℤ) → length out ≡ n → StartsMirrorable out from′ (before .durations)
     left-mirrorable out e = subst (λ (zs : List ℤ). StartsMirrorable out zs (before .durations)) (sym left-starts) (starts-mirrorable (mirroredRun ds es ls .starts) run-long back-fits out e)
 
-    pub ran-in-mirror : {ls′ : List ℤ} → ls′ ≡ mirrorStarts (take (length from′) (before .durations)) from′ → RanInMirror before es ls posts atoms r ls′ posts′ atoms′
-    ran-in-mirror z = record {
+    pub ran-in-mirror : (stored : ℕ) {ls′ : List ℤ} → ls′ ≡ mirrorStarts (take (length from′) (before .durations)) from′
+        → RanInMirror (recordOf (before .count) (before .durations) stored) es ls posts atoms r ls′ posts′ atoms′
+    ran-in-mirror stored z = record {
       answer = l .answer ∙ ap traceNumbers core-is;
       starts = z ∙ ap (λ (zs : List ℤ). mirrorStarts (take (length zs) (before .durations)) zs) left-starts
           ∙ ap (λ (m : ℕ). mirrorStarts (take m (before .durations)) (mirroredRun ds es ls .starts)) (run-long ∙ count);
@@ -176,23 +179,10 @@ module _ (before : DisjunctivePropagator) (es ls : List ℤ) (postCount atomCoun
     }
 
   -- its words may be mirrored back
-  pub durations-are : Durations ds (before .durations)
-  durations-are = record { few = omega (arith, count, a .lawful .few); same = λ k q. sym (lasts-at k (omega (arith, count))) }
-
-  pub posts-near-here : (j : ℕ) → j < length (mirroredRun (take (before .count) (before .durations)) es ls .posts)
-      → Near (take (before .count) (before .durations)) (consequentOf (post (mirroredRun (take (before .count) (before .durations)) es ls) j))
-  posts-near-here = laws.post-near ds es ls here es-long ls-long
-
-  pub atoms-near-here : Every (Near (take (before .count) (before .durations))) (atomsIn (mirroredRun (take (before .count) (before .durations)) es ls))
-  atoms-near-here = laws.atoms-near ds es ls here es-long ls-long
-
-  pub few-posts : length (mirroredRun (take (before .count) (before .durations)) es ls .posts) ≤ TASKS
-  few-posts = omega (arith, laws.mirrored-posts-fit ds es ls here es-long ls-long, posts-length (mirroredRun ds es ls .posts) 0, count, a .lawful .few)
-
   squares : (m x : ℕ) → m ≤ TASKS → x ≤ 6 * (m * m) → x ≤ 3 * ATOMS
   squares m x h q = omega (arith, q, mul-le-mul {n₁ = m} {m₁ = m} {n₂ = TASKS} {m₂ = TASKS} h h)
 
-  pub few-atoms : length (atomsIn (mirroredRun (take (before .count) (before .durations)) es ls)) ≤ ATOMS
+  pub few-atoms : length (atomsIn (mirroredRun ds es ls)) ≤ ATOMS
   few-atoms = omega (
     arith,
     squares (length ds) (length (atomWords (atomsIn (mirroredRun ds es ls)))) (here .few) (laws.mirrored-atoms-fit ds es ls here es-long ls-long),
@@ -202,17 +192,17 @@ module _ (before : DisjunctivePropagator) (es ls : List ℤ) (postCount atomCoun
   module _ {posts atoms posts′ atoms′ ls′ : List ℤ} {r : Outcome} (m : RanInMirror before es ls posts atoms r ls′ posts′ atoms′) where
     abbrev pub words-mirrorable : WordsMirrorable r posts′ atoms′ (before .durations)
     words-mirrorable = record {
-      ds = take (before .count) (before .durations);
-      trace = mirroredRun (take (before .count) (before .durations)) es ls;
+      ds = ds;
+      trace = mirroredRun ds es ls;
       old-posts = posts;
       old-atoms = atoms;
-      durations = durations-are;
+      durations = record { few = omega (arith, count, a .lawful .few); same = λ k q. sym (lasts-at k (omega (arith, count))) };
       answer = m .answer;
       post-words = m .post-words;
       atom-words = m .atom-words;
-      posts-near = posts-near-here;
-      atoms-near = atoms-near-here;
-      few = few-posts;
+      posts-near = laws.post-near ds es ls here es-long ls-long;
+      atoms-near = laws.atoms-near ds es ls here es-long ls-long;
+      few = omega (arith, laws.mirrored-posts-fit ds es ls here es-long ls-long, posts-length (mirroredRun ds es ls .posts) 0, count, a .lawful .few);
       small = few-atoms;
     }
 

@@ -15,11 +15,11 @@ use Rattle.integers.proofs.FilledLists.{filled-length, filled-at}
 use Rattle.integers.proofs.Ints.{up, dn, ints}
 use Rattle.scheduling.specs.Scheduling.{Atom}
 use Rattle.scheduling.specs.Words.{atomWords, no-atom}
-use Rattle.scheduling.specs.MirroredTime.{mirrorStart, mirrorKind, mirrorAtom}
+use Rattle.scheduling.specs.MirroredTime.{mirrorStart, mirrorKind}
 use Rattle.scheduling.proofs.Words.{atoms-length}
 use Rattle.runs.specs.Traces.{Post, End, done, emptied}
 use Rattle.runs.specs.Words.{postWords, reasons, endReason, atomsIn}
-use Rattle.runs.specs.Mirrored.{mirrorStarts, durationIn, mirrorPost}
+use Rattle.runs.specs.Mirrored.{mirrorStarts, durationIn}
 use Rattle.runs.specs.Demand.{consequentOf, no-post}
 use Rattle.runs.proofs.WrittenSlices.{posts-length, no-reasons}
 use Rattle.runs.proofs.Mirrored.{mirror-at, mirror-length, near-at, near-fits, post-task, post-bound, posts-step, atom-read, atoms-step}
@@ -74,16 +74,13 @@ module _ {old : List ℤ} {count : ℕ} {array : List ℕ} (h : PostsMirrorable 
   inside = omega (arith, h .number)
 
   task : getD words (taskAt j) (pos 0) ≡ pos (p .task)
-  task = ap (λ (l : List ℤ). getD l (taskAt j) (pos 0)) e ∙ post-task (h .ds) (h .posts) (h .tail) 0 j inside
+  task = rw e (post-task (h .ds) (h .posts) (h .tail) 0 j inside)
 
   bound : getD words (boundAt j) (pos 0) ≡ p .bound
-  bound = ap (λ (l : List ℤ). getD l (boundAt j) (pos 0)) e ∙ post-bound (h .ds) (h .posts) (h .tail) 0 j inside
-
-  size : length words ≡ length (postWords 0 (postsTo (h .ds) j (h .posts))) + length (h .tail)
-  size = ap length e ∙ length-append (postWords 0 (postsTo (h .ds) j (h .posts))) (h .tail)
+  bound = rw e (post-bound (h .ds) (h .posts) (h .tail) 0 j inside)
 
   room : 4 * j + 4 ≤ length words
-  room = omega (arith, size, posts-length (postsTo (h .ds) j (h .posts)) 0, filled-length (λ k. mirrorPost (h .ds) (getD (h .posts) k no-post)) j (h .posts), inside)
+  room = omega (arith, simp (length-append, posts-length, filled-length) at (ap length e), inside)
 
   pub post-mirrorable : WordMirrorable words (taskAt j) (boundAt j) array
   post-mirrorable = word-mirrorable (h .ds) array (h .durations) words (taskAt j) (boundAt j) (consequentOf p) (h .near j q) task bound (omega (arith, room)) (omega (arith, room))
@@ -118,26 +115,19 @@ module _ {old : List ℤ} {count : ℕ} {array : List ℕ} (h : AtomsMirrorable 
   near = near-at (h .ds) (h .atoms) (h .near) k within
 
   variable : getD words (variableAt k) (pos 0) ≡ pos (a .variable)
-  variable = ap (λ (l : List ℤ). getD l (variableAt k) (pos 0)) e ∙ atom-read (h .ds) (h .atoms) (h .tail) k within .variable
+  variable = rw e (atom-read (h .ds) (h .atoms) (h .tail) k within .variable)
 
   kind : getD words (kindAt k) (pos 0) ≡ pos (a .kind)
-  kind = ap (λ (l : List ℤ). getD l (kindAt k) (pos 0)) e ∙ atom-read (h .ds) (h .atoms) (h .tail) k within .kind
+  kind = rw e (atom-read (h .ds) (h .atoms) (h .tail) k within .kind)
 
   value : getD words (valueAt k) (pos 0) ≡ a .value
-  value = ap (λ (l : List ℤ). getD l (valueAt k) (pos 0)) e ∙ atom-read (h .ds) (h .atoms) (h .tail) k within .value
-
-  wide : length words ≡ length (atomWords (atomsTo (h .ds) k (h .atoms))) + length (h .tail)
-  wide = ap length e ∙ length-append (atomWords (atomsTo (h .ds) k (h .atoms))) (h .tail)
+  value = rw e (atom-read (h .ds) (h .atoms) (h .tail) k within .value)
 
   long : 3 * k + 3 ≤ length words
-  long = omega (arith, wide, atoms-length (atomsTo (h .ds) k (h .atoms)), filled-length (λ j. mirrorAtom (durationIn (h .ds)) (getD (h .atoms) j no-atom)) k (h .atoms), within)
+  long = omega (arith, simp (length-append, atoms-length, filled-length) at (ap length e), within)
 
   pub kind-mirrorable : (kindAt k < length words) × (pos 0 ≤ℤ getD words (kindAt k) (pos 0)) × (getD words (kindAt k) (pos 0) ≤ℤ pos 1)
-  kind-mirrorable = (
-    omega (arith, long),
-    subst (λ (z : ℤ). (pos 0 ≤ℤ z) × (z ≤ℤ pos 1)) (sym kind) (small-kind (a .kind) (near .kind)) .0,
-    subst (λ (z : ℤ). (pos 0 ≤ℤ z) × (z ≤ℤ pos 1)) (sym kind) (small-kind (a .kind) (near .kind)) .1,
-  )
+  kind-mirrorable = (omega (arith, long), rw kind (small-kind (a .kind) (near .kind) .0), rw kind (small-kind (a .kind) (near .kind) .1))
 
   -- after the kind
   module _ {then : List ℤ} {place : ℕ} (place-is : place ≡ kindAt k) (exchanged : then ≡ set words place (pos 1 -ℤ getD words place (pos 0))) where

@@ -9,6 +9,7 @@ use lib.ListN.{length, getD, take, List·getD-eq-default}
 use lib.Seq.{getD-take, length-take-le}
 use lib.Signed.{_≤ℤ_}
 use Rattle.integers.specs.Limits.{START, MIRRORED}
+use Rattle.integers.specs.Moments.{Above}
 use Rattle.integers.proofs.Ints.{up, dn, ints}
 use Rattle.integers.proofs.MomentSums.{more-above}
 use Rattle.scheduling.specs.Scheduling.{total}
@@ -16,7 +17,7 @@ use Rattle.scheduling.proofs.Sets.{total-ext}
 use Rattle.runs.proofs.Demand as demand
 use Rattle.records.specs.declared.record.DisjunctivePropagator.{DisjunctivePropagator}
 use Rattle.records.specs.Records.{Lawful}
-use Rattle.records.specs.Refusals.{AcceptedRun}
+use Rattle.records.specs.Refusals.{CountsFit, RangesFit, AcceptedRun}
 use Rattle.propagator.specs.Ran.{Runnable}
 
 -- The durations of a lawful record: none is 0, so there are as many as its count says.
@@ -36,25 +37,30 @@ module _ (r : DisjunctivePropagator) (lawful : Lawful r) where
   pub sum-is : total (λ k. getD (take (r .count) (r .durations)) k 0) (length (take (r .count) (r .durations))) ≡ total (λ k. getD (r .durations) k 0) (r .count)
   sum-is = ap (total (λ k. getD (take (r .count) (r .durations)) k 0)) count ∙ total-ext (λ k. getD (take (r .count) (r .durations)) k 0) (λ k. getD (r .durations) k 0) (r .count) lasts-at
 
--- What the core runs,
-pub accepted : (r : DisjunctivePropagator) (es ls : List ℤ) (postCount atomCount : ℕ) → Runnable r es ls postCount atomCount → demand.AcceptedTasks MIRRORED (take (r .count) (r .durations)) es ls
-accepted r es ls postCount atomCount a =
-    let c = count r (a .lawful) in
+-- The tasks of a run whose starts lie no further out than `far`,
+accepted-to : (far : ℕ) (r : DisjunctivePropagator) (es ls : List ℤ) → Lawful r → CountsFit (r .count) es ls → ((k : ℕ) → k < r .count → Above far (getD es k (pos 0)))
+    → ((k : ℕ) → k < r .count → getD ls k (pos 0) ≤ℤ pos far) → RangesFit es ls → demand.AcceptedTasks far (take (r .count) (r .durations)) es ls
+accepted-to far r es ls lawful counts from to ranges =
+    let c = count r lawful in
     record {
-      some = omega (arith, c, a .lawful .some);
-      few = omega (arith, c, a .lawful .few);
-      lasts = λ k q. omega (arith, lasts-at r (a .lawful) k (omega (arith, c)), a .lawful .lasts k (omega (arith, c)));
-      sum = omega (arith, sum-is r (a .lawful), a .lawful .sum);
-      from = λ k q. a .from k (omega (arith, c));
-      to = λ k q. a .to k (omega (arith, c));
-      ranges = λ k q. a .ranges k (omega (arith, c, a .counts .earliest));
+      some = omega (arith, c, lawful .some);
+      few = omega (arith, c, lawful .few);
+      lasts = λ k q. omega (arith, lasts-at r lawful k (omega (arith, c)), lawful .lasts k (omega (arith, c)));
+      sum = omega (arith, sum-is r lawful, lawful .sum);
+      from = λ k q. from k (omega (arith, c));
+      to = λ k q. to k (omega (arith, c));
+      ranges = λ k q. ranges k (omega (arith, c, counts .earliest));
     }
 
-wider : (z : ℤ) → z ≤ℤ pos START → z ≤ℤ pos MIRRORED
+-- those of one that the core runs,
+pub accepted : (r : DisjunctivePropagator) (es ls : List ℤ) (postCount atomCount : ℕ) → Runnable r es ls postCount atomCount → demand.AcceptedTasks MIRRORED (take (r .count) (r .durations)) es ls
+accepted r es ls postCount atomCount a = accepted-to MIRRORED r es ls (a .lawful) (a .counts) (a .from) (a .to) (a .ranges)
+
+pub wider : (z : ℤ) → z ≤ℤ pos START → z ≤ℤ pos MIRRORED
 unfolding up dn
 wider z h = omega ints
 
--- and an accepted run, which takes more for given than the core does.
+-- and those of an accepted run, which takes more for given than the core does.
 module _ (r : DisjunctivePropagator) (es ls : List ℤ) (postCount atomCount : ℕ) (a : AcceptedRun r es ls postCount atomCount) where
   pub runnable : Runnable r es ls postCount atomCount
   runnable = record {
@@ -67,15 +73,5 @@ module _ (r : DisjunctivePropagator) (es ls : List ℤ) (postCount atomCount : �
   }
 
   pub narrow : demand.AcceptedTasks START (take (r .count) (r .durations)) es ls
-  narrow =
-      let b = accepted r es ls postCount atomCount runnable in
-      let c = count r (a .lawful) in
-      record {
-        some = b .some;
-        few = b .few;
-        lasts = b .lasts;
-        sum = b .sum;
-        from = λ k q. a .starts .earliest k (omega (arith, c, a .counts .earliest)) .low;
-        to = λ k q. a .starts .latest k (omega (arith, c, a .counts .latest)) .high;
-        ranges = b .ranges;
-      }
+  narrow = accepted-to START r es ls (a .lawful) (a .counts) (λ k q. a .starts .earliest k (omega (arith, a .counts .earliest)) .low)
+      (λ k q. a .starts .latest k (omega (arith, a .counts .latest)) .high) (a .ranges)

@@ -1,4 +1,4 @@
--- One turn of the inner loop: what is asked of a post holds where a task is considered, and tree and slices are then at the definition's next state.
+-- At a level: what is asked of an overload's reason and of a post's holds, and after a turn of the inner loop tree and slices are at the definition's next state.
 use mathlib.Core.Path.{_≡_, refl, sym, ap, subst, _∙_}
 use mathlib.Core.List.{List, [], _∷_, _++_, map}
 use mathlib.Core.Bool.{true, false}
@@ -11,7 +11,7 @@ use lib.IntN.{ℤ, pos}
 use lib.ListN.{length, getD, set, length-append, length-map}
 use lib.Seq.{sets, length-sets, set-getD}
 use borrow.Author.Tests.{lt-ltb, le-ltb}
-use Rattle.integers.specs.Limits.{TASKS, ATOMS, INNER}
+use Rattle.integers.specs.Limits.{TASKS, ATOMS}
 use Rattle.integers.specs.Moments.{instant, zeroAt}
 use Rattle.integers.specs.Orders.{index}
 use Rattle.scheduling.specs.Scheduling.{natural, Tasks, TaskSet, Atom, completion}
@@ -28,9 +28,10 @@ use Rattle.trees.proofs.Heights.{room as room-for}
 use Rattle.trees.proofs.RootAnswers as tree
 use Rattle.trees.proofs.Trees.{theta-of}
 use Rattle.runs.specs.Traces.{Post}
-use Rattle.runs.specs.Runs.{State, dropped, raised, posted, propagation}
+use Rattle.runs.specs.Runs.{State, dropped, raised, posted, conflict, propagation}
 use Rattle.scheduling.specs.Words.{atomWords}
 use Rattle.runs.specs.Words.{postWords, reasons}
+use Rattle.runs.specs.Reached.{Reached}
 use Rattle.runs.proofs.LeafChanges.{reached-changes}
 use Rattle.runs.proofs.WrittenSlices.{post-stored, reason-stored, reasons-more}
 use Rattle.runs.proofs.InnerLoop.{inner-pass, inner-stop, inner-raise}
@@ -38,12 +39,13 @@ use Rattle.runs.proofs.AtomRoom as room
 use Rattle.runs.proofs.LevelSteps as steps
 use Rattle.runs.proofs.ReachedStates.{reached-inv}
 use Rattle.explanations.specs.WrittenAtoms.{starting}
-use Rattle.explanations.specs.Explanations.{PropagationExplainable}
-use Rattle.explanations.proofs.ExplanationAtoms.{Alike, propagation-same}
+use Rattle.explanations.specs.Explanations.{ConflictExplainable, PropagationExplainable}
+use Rattle.explanations.proofs.ExplanationAtoms.{Alike, conflict-same, propagation-same}
 use Rattle.propagator.specs.declared.disjunctive_propagator.Written.{Written}
 use Rattle.propagator.specs.declared.disjunctive_propagator.Turn.the-variants as turn
 use Rattle.propagator.specs.RunArrays.{Ordered, Holds, SizeFits, Slices}
 use Rattle.propagator.specs.Candidates.{counted, reasonOf, Posted, Considerable, AtNow, Considered, Responsible-for}
+use Rattle.propagator.specs.EdgeFinding.{conflictOf}
 use Rattle.propagator.proofs.ExplanationInput as meeting
 use Rattle.integers.proofs.Lists.{map-set}
 
@@ -54,6 +56,12 @@ explainable-at a e f m = rw (a, e, f) m
 
 propagation-at : (K : Tasks natural) (p b : ℕ) {θ θ′ : List ℕ} {c c′ i i′ : ℕ} → θ ≡ θ′ → c ≡ c′ → i ≡ i′ → propagation zeroAt K i b c p θ ≡ propagation zeroAt K i′ b c′ p θ′
 propagation-at K p b a e f = rw (a, e, f)
+
+overloaded-at : {size k : ℕ} {est durations θ θ′ : List ℕ} {p c c′ : ℕ} → θ ≡ θ′ → c ≡ c′ → ConflictExplainable size k θ′ est durations p c′ → ConflictExplainable size k θ est durations p c
+overloaded-at a e m = rw (a, e) m
+
+conflict-at : (K : Tasks natural) (p : ℕ) {θ θ′ : List ℕ} {c c′ : ℕ} → θ ≡ θ′ → c ≡ c′ → conflict zeroAt K c p θ ≡ conflict zeroAt K c′ p θ′
+conflict-at K p a e = rw (a, e)
 
 -- the words of one post more, of its reason, and of a start that is raised
 posts-at : (posts₀ : List ℤ) {posts posts′ : List ℤ} (made : List Post) (p : Post) {k m i many : ℕ} {b : ℤ} → posts ≡ sets posts₀ 0 (postWords 0 made) → k ≡ length made → m ≡ length (reasons made)
@@ -81,6 +89,13 @@ recounted k a = record {
   explained = a .explained;
   counted = ap (λ (c : ℕ). c + k) (a .counted);
 }
+
+-- the leaf changes of a run are few
+pub changes-few : {J : Tasks natural} {estOrder lctOrder : List ℕ} {t : ℕ} {st : State} {posts₀ atoms₀ es posts atoms : List ℤ} {many far changed : ℕ} (G : Ordered J estOrder lctOrder)
+    → Reached zeroAt J estOrder lctOrder t st → t < J .count → Slices posts₀ atoms₀ st es posts atoms many far changed
+    → changed ≤ 4 * TASKS
+changes-few {J} {estOrder} {lctOrder} {t} {st} G r small a =
+    omega (arith, a .counted, reached-changes zeroAt J (G .proper) estOrder lctOrder (G .by-earliest) (G .by-completion) t st r small, G .limited .count)
 
 module _ {size : TreeSize} {lct : ℕ} {words : List ℕ} {es posts atoms : List ℤ} {w : Written} {est lst durations reverseMapping mapping : List ℕ}
     (s : Considerable size lct words es posts atoms w est lst durations reverseMapping mapping) where
@@ -146,21 +161,11 @@ module _ {size : TreeSize} {lct : ℕ} {words : List ℕ} {es posts atoms : List
   pub few : n ≤ TASKS
   few = omega (arith, G .limited .count, s .arrays .count)
 
-  inner-few : inn ≤ INNER
-  inner-few = omega (arith, s .at .tree .complete, room-for (J .count) (omega (arith, G .limited .count)))
-
   pub size-fits : SizeFits size
-  size-fits = record { leaves = few; inner = inner-few }
+  size-fits = record { leaves = few; inner = omega (arith, s .at .tree .complete, room-for (J .count) (omega (arith, G .limited .count))) }
 
   pub few-changes : w .changes ≤ 4 * TASKS
-  few-changes = omega (
-    arith,
-    s .at .slices .counted,
-    reached-changes zeroAt J (G .proper) estOrder lctOrder (G .by-earliest) (G .by-completion) t (s .st) (s .reached) (s .small),
-    s .small,
-    few,
-    s .arrays .count,
-  )
+  few-changes = changes-few G (s .reached) (s .small) (s .at .slices)
 
   -- a number of each task, by the tasks' count
   pub held : {f : ℕ → ℕ} {array : List ℕ} → Holds n f array → Holds (J .count) f array
@@ -174,9 +179,38 @@ module _ {size : TreeSize} {lct : ℕ} {words : List ℕ} {es posts atoms : List
   pub atoms-size : length atoms ≡ length (s .atoms₀)
   atoms-size = ap length (s .at .slices .atom-words) ∙ length-sets (s .atoms₀) 0 (atomWords (reasons (s .st .posts)))
 
-  pub found-inside : (x : ℕ) → leaves.responsible J estOrder ls ≡ some x → x < J .count
-  found-inside x z = tree.one-found J (G .proper) estOrder (G .by-earliest) ls Θ Λ shape x z .small
+  pub found-inside : (x : ℕ) → leaves.responsible J estOrder ls ≡ some x → x < n
+  found-inside x z = omega (arith, s .arrays .count, tree.one-found J (G .proper) estOrder (G .by-earliest) ls Θ Λ shape x z .small)
 
+  -- an overload of the level
+  posts-few : length (s .st .posts) ≤ t
+  posts-few = room.posts-few zeroAt J (G .proper) estOrder lctOrder (G .by-earliest) (G .by-completion) t (s .st) inv
+
+  over-room : 3 * w .atoms + 6 * length (leaves.theta J estOrder ls) ≤ length atoms
+  over-room = omega (
+    arith,
+    s .at .slices .explained,
+    reasons-short,
+    room.theta-most zeroAt J (G .proper) estOrder lctOrder (G .by-earliest) (G .by-completion) ls,
+    s .arrays .count,
+    s .atom-room,
+    atoms-size,
+    mul-left-comm n 2 n,
+    mul-le-mul-right {m = suc (length (s .st .posts))} {n = n} (2 * n) (omega (arith, posts-few, s .small, s .arrays .count)),
+  )
+
+  pub over-asked : exceeds (leaves.ect J estOrder ls) lct ≡ true → ConflictExplainable (length atoms) (w .atoms) (thetaIn words inn reverseMapping n) est durations (leaves.sum J estOrder ls) lct
+  over-asked q = overloaded-at theta-is (s .ends)
+      (meeting.conflict-explainable G (held (s .arrays .starts)) (held (s .arrays .lasts)) t shape (s .small) (length atoms) (w .atoms)
+      (ap (exceeds (leaves.ect J estOrder ls)) (sym (s .ends)) ∙ q) over-room)
+
+  pub conflict-is : conflictOf shown reverseMapping n est durations lct ≡ conflict zeroAt J (completion J (getD lctOrder t 0)) (leaves.sum J estOrder ls) (leaves.theta J estOrder ls)
+  conflict-is = conflict-at (starting est durations) (leaves.sum J estOrder ls) theta-is (s .ends)
+      ∙ conflict-same zeroAt (starting est durations) J (completion J (getD lctOrder t 0)) (leaves.sum J estOrder ls) (leaves.theta J estOrder ls)
+      (λ y q. meeting.alike G (held (s .arrays .starts)) (held (s .arrays .lasts)) (getD (leaves.theta J estOrder ls) y 0)
+      (meeting.each-listed G (held (s .arrays .starts)) (held (s .arrays .lasts)) t shape (s .small) y q))
+
+  -- a task to consider
   module _ {i x : ℕ} (r : Responsible-for s i x) where
     found : tree.Found J (G .proper) estOrder (G .by-earliest) ls Θ Λ shape x
     found = tree.one-found J (G .proper) estOrder (G .by-earliest) ls Θ Λ shape x (r .found)
@@ -269,8 +303,7 @@ module _ {size : TreeSize} {lct : ℕ} {words : List ℕ} {es posts atoms : List
         -- what `post` asks
         pub asked : PropagationExplainable (length atoms) (w .atoms) (thetaIn words inn reverseMapping n) est durations (leaves.sum J estOrder ls) lct i b
         asked = explainable-at theta-is (s .ends) (r .task)
-            (meeting.propagation-explainable J estOrder lctOrder G est durations (held (s .arrays .starts)) (held (s .arrays .lasts)) t ls Λ shape (s .small) (length atoms)
-            (w .atoms) x b found passes ect-is up′ atom-room)
+            (meeting.propagation-explainable G (held (s .arrays .starts)) (held (s .arrays .lasts)) t shape (s .small) (length atoms) (w .atoms) x b found passes ect-is up′ atom-room)
 
         abbrev now : List Atom
         now = propagation zeroAt J (T x) b (completion J (getD lctOrder t 0)) (leaves.sum J estOrder ls) (leaves.theta J estOrder ls)
@@ -282,10 +315,10 @@ module _ {size : TreeSize} {lct : ℕ} {words : List ℕ} {es posts atoms : List
         reason-is = propagation-at (starting est durations) (leaves.sum J estOrder ls) b theta-is (s .ends) (r .task)
             ∙ propagation-same zeroAt (starting est durations) J (T x) b (completion J (getD lctOrder t 0)) (leaves.sum J estOrder ls) (leaves.theta J estOrder ls)
             (alike (T x) (found .gray .small)) (λ y q.
-            alike (getD (leaves.theta J estOrder ls) y 0) (meeting.each-listed J estOrder lctOrder G est durations (held (s .arrays .starts)) (held (s .arrays .lasts)) t ls Λ shape (s .small) y q))
+            alike (getD (leaves.theta J estOrder ls) y 0) (meeting.each-listed G (held (s .arrays .starts)) (held (s .arrays .lasts)) t shape (s .small) y q))
           where
             alike : (k : ℕ) → k < J .count → Alike (starting est durations) J k
-            alike = meeting.alike J estOrder lctOrder G est durations (held (s .arrays .starts)) (held (s .arrays .lasts))
+            alike = meeting.alike G (held (s .arrays .starts)) (held (s .arrays .lasts))
 
         -- the state with the post
         abbrev after : State
@@ -314,27 +347,21 @@ module _ {size : TreeSize} {lct : ℕ} {words : List ℕ} {es posts atoms : List
 
           pub raised-on : {k : ℕ} {words′ : List ℕ} {es′ : List ℤ} → b ≤ getD lst i 0 → es′ ≡ set es i (instant zeroAt b) → k ≡ getD mapping i 0 → Cleared k words′
               → Considered s (turn.On (counted w′ 1)) words′ es′ posts′ atoms′
-          raised-on {words′ = words′} {es′} low e at-leaf q = (
-            next,
-            at-next,
+          raised-on {words′ = words′} low e at-leaf q = (
+            dropped (raised after (T x) b) x,
+            record {
+              tree = cleared words′ at-leaf q;
+              slices = record {
+                starts = starts-at (s .st .starts) b (s .at .slices .starts) (r .task) e;
+                post-words = post-at .slices .post-words;
+                atom-words = post-at .slices .atom-words;
+                posted = post-at .slices .posted;
+                explained = post-at .slices .explained;
+                counted = ap (λ (c : ℕ). c + 1) (post-at .slices .counted);
+              };
+            },
             λ f. inner-raise zeroAt J estOrder lctOrder f t (s .st) x passes (r .found) b ect-is (lt-ltb (J .earliest (T x)) b up′) (le-ltb (J .latest (T x)) b (omega (arith, low, task-latest))),
           )
-            where
-              next : State
-              next = dropped (raised after (T x) b) x
-
-              at-next : AtNow s next words′ es′ posts′ atoms′ (counted w′ 1)
-              at-next = record {
-                tree = cleared words′ at-leaf q;
-                slices = record {
-                  starts = starts-at (s .st .starts) b (s .at .slices .starts) (r .task) e;
-                  post-words = post-at .slices .post-words;
-                  atom-words = post-at .slices .atom-words;
-                  posted = post-at .slices .posted;
-                  explained = post-at .slices .explained;
-                  counted = ap (λ (c : ℕ). c + 1) (post-at .slices .counted);
-                };
-              }
 
       -- no post
       pub passed-on : {k : ℕ} {words′ : List ℕ} → b ≤ getD est i 0 → k ≡ getD mapping i 0 → Cleared k words′ → Considered s (turn.On (counted w 1)) words′ es posts atoms

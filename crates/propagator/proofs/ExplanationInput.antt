@@ -30,7 +30,7 @@ use Rattle.explanations.proofs.ExplanationAtoms.{Alike}
 use Rattle.explanations.proofs.Places.{lasts-none, lasts-more}
 use Rattle.propagator.specs.RunArrays.{Ordered, Holds}
 
-module _ (J : Tasks natural) (estOrder lctOrder : List ℕ) (G : Ordered J estOrder lctOrder) (est durations : List ℕ) (he : Holds (J .count) (J .earliest) est)
+module _ {J : Tasks natural} {estOrder lctOrder : List ℕ} (G : Ordered J estOrder lctOrder) {est durations : List ℕ} (he : Holds (J .count) (J .earliest) est)
     (hd : Holds (J .count) (J .duration) durations) where
   abbrev ok : Proper J
   ok = G .proper
@@ -54,7 +54,7 @@ module _ (J : Tasks natural) (estOrder lctOrder : List ℕ) (G : Ordered J estOr
   pub alike : (k : ℕ) → k < n → Alike (starting est durations) J k
   alike k q = record { earliest = he .at k q; duration = hd .at k q }
 
-  module _ (t : ℕ) (ls : List Leaf) (Λ : TaskSet) (s : tree.Represents J ok estOrder (G .by-earliest) ls (λ k. leb t (index lctOrder k)) Λ) (small : t < n) where
+  module _ (t : ℕ) {ls : List Leaf} {Λ : TaskSet} (s : tree.Represents J ok estOrder (G .by-earliest) ls (λ k. leb t (index lctOrder k)) Λ) (small : t < n) where
     abbrev Θ : TaskSet
     Θ k = leb t (index lctOrder k)
 
@@ -78,11 +78,9 @@ module _ (J : Tasks natural) (estOrder lctOrder : List ℕ) (G : Ordered J estOr
 
     -- how long the listed tasks from a place on last
     lasts-onward : (d a : ℕ) → a + d ≡ n → lasts durations (th a d) ≡ processing J (onward a)
-    lasts-onward zero a z = ap (lasts durations) (theta-none (whiteAt ls) (taskAt J estOrder) a) ∙ lasts-none durations
-        ∙ sym (ap (λ (a : ℕ). processing J (onward a)) (end a z) ∙ walks.none-left zeroAt J ok estOrder lctOrder (G .by-earliest) ls Θ Λ s)
-      where
-        end : (a : ℕ) → a + 0 ≡ n → a ≡ n
-        end a z = omega arith
+    lasts-onward zero a z = let end : a ≡ n = omega arith in
+        ap (lasts durations) (theta-none (whiteAt ls) (taskAt J estOrder) a) ∙ lasts-none durations
+        ∙ sym (ap (λ (a : ℕ). processing J (onward a)) end ∙ walks.none-left zeroAt J ok estOrder lctOrder (G .by-earliest) ls Θ Λ s)
     lasts-onward (suc d) a z = by (lasts-onward d (suc a) (omega arith)) (bool (whiteAt ls a))
       where
         by : lasts durations (th (suc a) d) ≡ processing J (onward (suc a)) → (whiteAt ls a ≡ true) ⊎ (whiteAt ls a ≡ false) → lasts durations (th a (suc d)) ≡ processing J (onward a)
@@ -106,27 +104,20 @@ module _ (J : Tasks natural) (estOrder lctOrder : List ℕ) (G : Ordered J estOr
     -- a white leaf, in the list
     at-spot : (x : ℕ) → x < n → Θ (T x) ≡ true → (spot x < length θ) × (getD θ (spot x) 0 ≡ T x) × (lasts durations (drop (spot x) θ) ≡ processing J (onward x))
     at-spot x q y =
+        let one : n - x ≡ suc (n - suc x) = omega arith in
+        let plus : spot x ≡ spot x + 0 = omega arith in
         let f = stops.from-spot zeroAt J ok estOrder lctOrder (G .by-earliest) (G .by-completion) t ls Λ s small x q in
-        let g : drop (spot x) θ ≡ T x ∷ th (suc x) (n - suc x) = f ∙ ap (th x) (one x q) ∙ theta-white (whiteAt ls) (taskAt J estOrder) x (n - suc x) (white-at x q ∙ y) in (
+        let g : drop (spot x) θ ≡ T x ∷ th (suc x) (n - suc x) = f ∙ ap (th x) one ∙ theta-white (whiteAt ls) (taskAt J estOrder) x (n - suc x) (white-at x q ∙ y) in (
           omega (arith, ap length g, length-drop (spot x) θ),
-          ap (λ (k : ℕ). getD θ k 0) (plus (spot x)) ∙ sym (getD-drop (spot x) θ 0 0) ∙ ap (λ (l : List ℕ). getD l 0 0) g,
+          ap (λ (k : ℕ). getD θ k 0) plus ∙ sym (getD-drop (spot x) θ 0 0) ∙ ap (λ (l : List ℕ). getD l 0 0) g,
           ap (lasts durations) f ∙ lasts-onward (n - x) x (omega arith),
         )
-      where
-        one : (x : ℕ) → x < n → n - x ≡ suc (n - suc x)
-        one x q = omega arith
-
-        plus : (k : ℕ) → k ≡ k + 0
-        plus k = omega arith
-
-    whole : processing J (onward 0) ≤ all
-    whole = processing-mono J (onward 0) (λ _. true) (λ k h. refl)
 
     sum-lasts : sum J estOrder ls ≡ lasts durations θ
     sum-lasts = walks.sum-is zeroAt J ok estOrder lctOrder (G .by-earliest) ls Θ Λ s ∙ sym (lasts-onward n 0 (omega arith)) ∙ ap (lasts durations) (sym (theta-is J estOrder ls))
 
     sum-most : sum J estOrder ls ≤ all
-    sum-most = omega (arith, walks.sum-is zeroAt J ok estOrder lctOrder (G .by-earliest) ls Θ Λ s, whole)
+    sum-most = omega (arith, walks.sum-is zeroAt J ok estOrder lctOrder (G .by-earliest) ls Θ Λ s, processing-mono J (onward 0) (λ _. true) (λ k h. refl))
 
     white : White θ est durations (sum J estOrder ls) c
     white = record {

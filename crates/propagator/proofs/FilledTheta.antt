@@ -1,5 +1,5 @@
 -- The leaves become white, one after the other, and the ect of their tasks is known.
-use mathlib.Core.Path.{_≡_, sym, ap, ap₂, subst, _∙_}
+use mathlib.Core.Path.{_≡_, sym, ap, ap₂, _∙_}
 use mathlib.Core.List.{List}
 use Prim.Native.Nat.{ℕ, _+_, _≤_, _<_, max}
 use native.Mathlib.Omega.{arith}
@@ -15,7 +15,7 @@ use Rattle.trees.specs.Leaves.{Leaf, empty, white, durationAt, ect-bar}
 use Rattle.trees.specs.Trees.{HasLeaves}
 use Rattle.trees.specs.Operations.{HeldLeaves, HasTask, LeafColoured}
 use Rattle.trees.proofs.RebuiltTrees.{tree-leaves}
-use Rattle.trees.proofs.TasksInTurn.{ectOfFirst, first-none, first-more, first-small, all-in-turn}
+use Rattle.trees.proofs.TasksInTurn.{ectOfFirst, first-more, first-small, all-in-turn}
 use Rattle.propagator.specs.FilledTheta.{Fillable}
 
 module _ {inner n : ℕ} {words reverseMapping est durations : List ℕ} (f : Fillable inner n words reverseMapping est durations) where
@@ -24,10 +24,7 @@ module _ {inner n : ℕ} {words reverseMapping est durations : List ℕ} (f : Fi
   upTo x = filled (λ _. white) x (replicate (f .J .count) empty)
 
   pub none-white : HasLeaves (f .J) (f .estOrder) (upTo 0) inner words
-  none-white = subst (λ (ls : List Leaf). HasLeaves (f .J) (f .estOrder) ls inner words) (sym (filled-none (λ _. white) (replicate (f .J .count) empty))) (tree-leaves (f .limited) (f .tree))
-
-  pub none-later : 0 ≡ ectOfFirst (f .J) (f .estOrder) 0
-  none-later = sym (first-none (f .J) (f .estOrder))
+  none-white = rw (filled-none (λ _. white) (replicate (f .J .count) empty)) (tree-leaves (f .limited) (f .tree))
 
   module _ (x : ℕ) (q : x < n) where
     abbrev t : ℕ
@@ -49,7 +46,7 @@ module _ {inner n : ℕ} {words reverseMapping est durations : List ℕ} (f : Fi
   shown x i = record { J = f .J; estOrder = f .estOrder; leaves = upTo x; limited = f .limited; has = i }
 
   pub one-white : (x : ℕ) {now now′ : List ℕ} (i : HasLeaves (f .J) (f .estOrder) (upTo x) inner now) → LeafColoured white (shown x i) x now′ → HasLeaves (f .J) (f .estOrder) (upTo (x + 1)) inner now′
-  one-white x {now} {now′} i p = subst (λ (ls : List Leaf). HasLeaves (f .J) (f .estOrder) ls inner now′) (sym (filled-more (λ _. white) x (replicate (f .J .count) empty))) p
+  one-white x i p = rw (filled-more (λ _. white) x (replicate (f .J .count) empty)) p
 
   -- the ect of the first x tasks
   abbrev pub Ect : ℕ → ℕ → Type 0
@@ -72,7 +69,7 @@ module _ {inner n : ℕ} {words reverseMapping est durations : List ℕ} (f : Fi
   all-later x z is = is ∙ ap (ectOfFirst (f .J) (f .estOrder)) (z ∙ sym (f .count)) ∙ sym (all-in-turn (f .J) (f .estOrder))
 
   pub all-white : (x : ℕ) → x ≡ n → {now : List ℕ} → HasLeaves (f .J) (f .estOrder) (upTo x) inner now → HasLeaves (f .J) (f .estOrder) (replicate (f .J .count) white) inner now
-  all-white x z {now} t = subst (λ (ls : List Leaf). HasLeaves (f .J) (f .estOrder) ls inner now) is t
+  all-white x z t = rw (← is) t
     where
       is : upTo x ≡ replicate (f .J .count) white
       is = ext-getD empty (upTo x) (replicate (f .J .count) white)

@@ -21,17 +21,13 @@ use Rattle.scheduling.specs.Scheduling.{whole, natural, Tasks, tasksOf, Proper,
 use Rattle.scheduling.proofs.Processing.{processing-less, processing-all}
 use Rattle.scheduling.proofs.Clocks.{sound}
 use Rattle.scheduling.specs.Moments.{moments, ByEarliest}
-use Rattle.trees.specs.Ects.{raisedTo}
-use Rattle.trees.specs.Leaves.{white, ect-bar}
-use Rattle.trees.specs.Trees.{HasLeaves}
+use Rattle.trees.specs.Leaves.{white}
 use Rattle.trees.specs.Operations.{HeldLeaves, New}
 use Rattle.trees.specs.declared.theta_lambda_tree.ThetaLambdaTree.{ThetaLambdaTree}
 use Rattle.trees.proofs.RootAnswers as tree
-use Rattle.runs.specs.Traces.{Trace}
 use Rattle.runs.specs.Runs.{tabulate, byEarliest, byCompletion, earliestOrder, completionOrder, run, allWhite}
 use Rattle.scheduling.specs.Words.{atomWords}
 use Rattle.runs.specs.Words.{postWords, reasons, endReason, postsAfter, atomsAfter}
-use Rattle.runs.specs.EndNumbers.{traceNumbers}
 use Rattle.integers.proofs.Words.{overwrites}
 use Rattle.runs.proofs.WrittenSlices.{no-posts-stored, no-atoms-stored, no-reasons}
 use Rattle.runs.proofs.Demand as demand
@@ -43,9 +39,10 @@ use Rattle.sorts.specs.Orders.{SortedBy, Ranked, byKey, byKeyDown}
 use Rattle.sorts.proofs.Ranks.{rank-index}
 use Rattle.sorts.proofs.Sorted.{sorted-as}
 use Rattle.records.specs.declared.record.DisjunctivePropagator.{DisjunctivePropagator}
+use Rattle.records.specs.Records.{recordOf}
 use Rattle.propagator.specs.RunArrays.{Ordered, Holds, Slices}
 use Rattle.runs.specs.declared.outcome.Outcome.{Outcome}
-use Rattle.propagator.specs.FilledTheta.{Fillable}
+use Rattle.propagator.specs.FilledTheta.{Fillable, Filled}
 use Rattle.propagator.specs.EdgeFinding.{JoinedPast, EdgeFindable, EdgeFound}
 use Rattle.propagator.specs.Ran.{Runnable, traceOf, RunLeft}
 use Rattle.propagator.proofs.AcceptedInput as accepting
@@ -53,7 +50,7 @@ use Rattle.propagator.proofs.AcceptedInput as accepting
 zeros-long : length noTasks ≡ TASKS
 zeros-long = length-replicate {A = ℕ} TASKS 0
 
-module _ (r : DisjunctivePropagator) (es ls : List ℤ) (postCount atomCount : ℕ) (a : Runnable r es ls postCount atomCount) (long : length (r .durations) ≡ TASKS) where
+module _ {r : DisjunctivePropagator} {es ls : List ℤ} {postCount atomCount : ℕ} (a : Runnable r es ls postCount atomCount) (long : length (r .durations) ≡ TASKS) where
   abbrev n : ℕ
   n = r .count
 
@@ -92,18 +89,9 @@ module _ (r : DisjunctivePropagator) (es ls : List ℤ) (postCount atomCount : �
   pub holds-durations : Holds n (J .duration) (r .durations)
   holds-durations = record { size = long; at = λ k q. sym (accepting.lasts-at r (a .lawful) k q) }
 
-  pub holds-completions : (lst : List ℕ) → Holds n (J .latest) lst → Holds n (completion J) (filled (completionAt lst (r .durations)) n noTasks)
-  holds-completions lst h = record {
-    size = filled-length (completionAt lst (r .durations)) n noTasks ∙ zeros-long;
-    at = λ k q. filled-at (completionAt lst (r .durations)) n noTasks 0 k q (omega (arith, few, zeros-long)) ∙ ap₂ _+_ (h .at k q) (holds-durations .at k q);
-  }
-
   -- an order sorted by an array's keys is that of the tasks
-  pub sorted-first : (est : List ℕ) → Holds n (J .earliest) est → {reverseMapping : List ℕ} → SortedBy (byKey est) n reverseMapping → take n reverseMapping ≡ estOrder
-  sorted-first est h s = sorted-as s (byEarliest J) (λ j k p q. ap₂ leb (h .at j p) (h .at k q)) ∙ ap (λ (m : ℕ). sort (byEarliest J) (numbers 0 m)) (sym count)
-
-  pub sorted-second : (lct : List ℕ) → Holds n (completion J) lct → {sortedTasks : List ℕ} → SortedBy (byKeyDown lct) n sortedTasks → take n sortedTasks ≡ lctOrder
-  sorted-second lct h s = sorted-as s (byCompletion J) (λ j k p q. ap₂ leb (h .at k q) (h .at j p)) ∙ ap (λ (m : ℕ). sort (byCompletion J) (numbers 0 m)) (sym count)
+  sorted-is : (le : ℕ → ℕ → Bool) {by : ℕ → ℕ → Bool} {l : List ℕ} → SortedBy by n l → ((j k : ℕ) → j < n → k < n → by j k ≡ le j k) → take n l ≡ sort le (numbers 0 (length ds))
+  sorted-is le s same = sorted-as s le same ∙ ap (λ (m : ℕ). sort le (numbers 0 m)) (sym count)
 
   pub holds-order : (l m : List ℕ) → take n l ≡ m → length l ≡ TASKS → Holds n (λ j. getD m j 0) l
   holds-order l m z size = record { size = size; at = λ k q. sym (getD-take n l k 0 q) ∙ ap (λ (o : List ℕ). getD o k 0) z }
@@ -147,11 +135,7 @@ module _ (r : DisjunctivePropagator) (es ls : List ℤ) (postCount atomCount : �
     fits = λ k q. omega (arith, short, early k q .2, lasting k q);
   }
 
-  -- a latest completion is a key
-  pub key-small : (lst : List ℕ) → Holds n (J .latest) lst → (k : ℕ) → k < n → completionAt lst (r .durations) k ≤ U32MAX
-  key-small lst h k q = let z : k < length ds = omega (arith, count) in omega (arith, h .at k q, holds-durations .at k q, early k z .2, lasting k z)
-
-  pub completion-small : (k : ℕ) → k < n → completion J k ≤ U32MAX
+  completion-small : (k : ℕ) → k < n → completion J k ≤ U32MAX
   completion-small k q = let z : k < length ds = omega (arith, count) in omega (arith, early k z .2, lasting k z)
 
   -- the state at the start: nothing is written
@@ -184,6 +168,22 @@ module _ (r : DisjunctivePropagator) (es ls : List ℤ) (postCount atomCount : �
     a .words .atoms,
   )
 
+  -- what a run leaves; a record's stored sum stands in no field of that
+  pub left : (stored : ℕ) {posts atoms es′ posts′ atoms′ : List ℤ} {o : Outcome} {c : ℕ} → postCount ≡ length posts → atomCount ≡ length atoms
+      → EdgeFound J estOrder lctOrder posts atoms o c es′ posts′ atoms′
+      → RunLeft (recordOf (r .count) (r .durations) stored) es ls posts atoms o c es′ posts′ atoms′
+  left stored {posts} {atoms} p q d = record {
+    answer = rw trace-is (d .answer);
+    changes = rw trace-is (d .changes);
+    changes-most = omega (arith, d .changes, changes-most zeroAt J proper estOrder lctOrder by-earliest (ordered .by-completion) (accepted .some), count);
+    starts = rw trace-is (d .starts);
+    post-words = d .post-words ∙ overwrites posts (postWords 0 (run zeroAt J estOrder lctOrder .posts)) (omega (arith, posts-fit, p)) ∙ ap (postsAfter posts) (sym trace-is);
+    atom-words = d .atom-words ∙ overwrites atoms (atomWords (reasons (run zeroAt J estOrder lctOrder .posts) ++ endReason (run zeroAt J estOrder lctOrder .end))) (omega (arith, atoms-fit, q))
+        ∙ ap (atomsAfter atoms) (sym trace-is);
+    posts-fit = rw trace-is (omega (arith, posts-fit, p));
+    atoms-fit = rw trace-is (omega (arith, atoms-fit, q));
+  }
+
   -- what the calls before edge finding left
   module _ {est lst : List ℕ} (e : est ≡ filled (momentAt es) (length es) noTasks) (l : lst ≡ filled (momentAt ls) (length ls) noTasks) where
     pub starts : Holds n (J .earliest) est
@@ -192,22 +192,32 @@ module _ (r : DisjunctivePropagator) (es ls : List ℤ) (postCount atomCount : �
     pub latest : Holds n (J .latest) lst
     latest = subst (Holds n (J .latest)) (sym l) (holds-starts ls (a .counts .latest))
 
+    -- a latest completion is a key
+    is-completion : (k : ℕ) → k < n → completionAt lst (r .durations) k ≡ completion J k
+    is-completion k q = ap₂ _+_ (latest .at k q) (holds-durations .at k q)
+
+    pub key-small : (k : ℕ) → k < n → completionAt lst (r .durations) k ≤ U32MAX
+    key-small k q = omega (arith, is-completion k q, completion-small k q)
+
+    pub completions : {lct : List ℕ} → lct ≡ filled (completionAt lst (r .durations)) n noTasks → Holds n (completion J) lct
+    completions c = rw c (record {
+      size = filled-length (completionAt lst (r .durations)) n noTasks ∙ zeros-long;
+      at = λ k q. filled-at (completionAt lst (r .durations)) n noTasks 0 k q (omega (arith, few, zeros-long)) ∙ is-completion k q;
+    })
+
     pub keys-small : {lct : List ℕ} → lct ≡ filled (completionAt lst (r .durations)) n noTasks → (k : ℕ) → k < n → getD lct k 0 ≤ U32MAX
-    keys-small {lct} c k q = omega (arith, ap (λ (o : List ℕ). getD o k 0) c ∙ holds-completions lst latest .at k q, completion-small k q)
+    keys-small c k q = omega (arith, completions c .at k q, completion-small k q)
 
     module _ {lct reverseMapping sortedTasks : List ℕ} (c : lct ≡ filled (completionAt lst (r .durations)) n noTasks) (f : SortedBy (byKey est) n reverseMapping)
         (g : SortedBy (byKeyDown lct) n sortedTasks) where
-      pub completions : Holds n (completion J) lct
-      completions = subst (Holds n (completion J)) (sym c) (holds-completions lst latest)
-
       front : take n reverseMapping ≡ estOrder
-      front = sorted-first est starts f
+      front = sorted-is (byEarliest J) f (λ j k p q. ap₂ leb (starts .at j p) (starts .at k q))
 
       pub order : Holds n (λ j. getD estOrder j 0) reverseMapping
       order = holds-order reverseMapping estOrder front (f .size)
 
       pub sorted-tasks-order : Holds n (λ t. getD lctOrder t 0) sortedTasks
-      sorted-tasks-order = holds-order sortedTasks lctOrder (sorted-second lct completions g) (g .size)
+      sorted-tasks-order = holds-order sortedTasks lctOrder (sorted-is (byCompletion J) g (λ j k p q. ap₂ leb (completions c .at k q) (completions c .at j p))) (g .size)
 
       -- there is a first level, of a task
       any : 0 < n
@@ -240,16 +250,16 @@ module _ (r : DisjunctivePropagator) (es ls : List ℤ) (postCount atomCount : �
 
         -- the first level's lct
         pub first-lct : getD lct (getD sortedTasks 0 0) 0 ≡ completion J (getD lctOrder 0 0)
-        first-lct = ap (λ (k : ℕ). getD lct k 0) (sorted-tasks-order .at 0 any) ∙ completions .at (getD lctOrder 0 0) (omega (arith, first-small, sorted-tasks-order .at 0 any))
+        first-lct = ap (λ (k : ℕ). getD lct k 0) (sorted-tasks-order .at 0 any) ∙ completions c .at (getD lctOrder 0 0) (omega (arith, first-small, sorted-tasks-order .at 0 any))
 
-        -- the white leaves that the tree was filled with, and the ect of all tasks
-        abbrev pub White : List ℕ → ℕ → Type 0
-        White words ect = HasLeaves J estOrder (replicate (J .count) white) (made .«number_of_internal_nodes») words × (ect ≡ raisedTo 0 (ect-bar J estOrder (replicate (J .count) white)))
+        -- the tree was filled: the words hold white leaves, and the ect of all tasks is known
+        abbrev pub Full : List ℕ → ℕ → Type 0
+        Full words ect = Filled (made .«number_of_internal_nodes») n (made .nodes) words reverseMapping est (r .durations) ect
 
-        abbrev pub begun : {words : List ℕ} {ect : ℕ} → White words ect → HeldLeaves (made .«number_of_internal_nodes») words
-        begun full = record { J = J; estOrder = estOrder; leaves = replicate (J .count) white; limited = ordered .limited; has = full .0 }
+        abbrev pub begun : {words : List ℕ} {ect : ℕ} → Full words ect → HeldLeaves (made .«number_of_internal_nodes») words
+        begun full = record { J = J; estOrder = estOrder; leaves = replicate (J .count) white; limited = ordered .limited; has = full fillable .0 }
 
-        abbrev pub findable : {words words′ : List ℕ} {ect : ℕ} {past : Bool} {posts atoms : List ℤ} → White words ect
+        abbrev pub findable : {words words′ : List ℕ} {ect : ℕ} {past : Bool} {posts atoms : List ℤ} → Full words ect
             → JoinedPast (made .«number_of_internal_nodes») words words′ ect (getD lct (getD sortedTasks 0 0) 0) past → postCount ≡ length posts → atomCount ≡ length atoms
             → EdgeFindable (record { inner = made .«number_of_internal_nodes»; height = made .height; leaves = n }) ect past words′ es posts atoms est lst lct (r .durations) reverseMapping
             sortedTasks mapping
@@ -260,28 +270,13 @@ module _ (r : DisjunctivePropagator) (es ls : List ℤ) (postCount atomCount : �
           ordered = ordered;
           arrays = record { count = count; starts = starts; lasts = holds-durations; reverse-mapping = order; places = places; tall = t .size .least };
           latest = latest;
-          completions = completions;
+          completions = completions c;
           order = sorted-tasks-order;
           post-room = omega (arith, p, a .words .posts);
           atom-room = omega (arith, q, a .words .atoms);
-          ect-is = full .1;
+          ect-is = full fillable .1;
           has = k .has (begun full);
           tree = k .tree (begun full);
           unjoined = λ z. omega (arith, ltb-false (getD lct (getD sortedTasks 0 0) 0) ect (sym (k .past) ∙ z), first-lct);
           slices = at-start posts atoms;
         }
-
-      -- and what a run leaves
-      pub left : {posts atoms es′ posts′ atoms′ : List ℤ} {o : Outcome} {c : ℕ} → postCount ≡ length posts → atomCount ≡ length atoms → EdgeFound J estOrder lctOrder posts atoms o c es′ posts′ atoms′
-          → RunLeft r es ls posts atoms o c es′ posts′ atoms′
-      left {posts} {atoms} {es′} {posts′} {atoms′} {o} {c} p q d = record {
-        answer = d .answer ∙ ap traceNumbers (sym trace-is);
-        changes = d .changes ∙ ap (λ (t : Trace). t .changes) (sym trace-is);
-        changes-most = omega (arith, d .changes, changes-most zeroAt J proper estOrder lctOrder by-earliest (ordered .by-completion) (accepted .some), count);
-        starts = d .starts ∙ ap (λ (t : Trace). t .starts) (sym trace-is);
-        post-words = d .post-words ∙ overwrites posts (postWords 0 (run zeroAt J estOrder lctOrder .posts)) (omega (arith, posts-fit, p)) ∙ ap (postsAfter posts) (sym trace-is);
-        atom-words = d .atom-words ∙ overwrites atoms (atomWords (reasons (run zeroAt J estOrder lctOrder .posts) ++ endReason (run zeroAt J estOrder lctOrder .end))) (omega (arith, atoms-fit, q))
-            ∙ ap (atomsAfter atoms) (sym trace-is);
-        posts-fit = subst (λ (t : Trace). length (postWords 0 (t .posts)) ≤ length posts) (sym trace-is) (omega (arith, posts-fit, p));
-        atoms-fit = subst (λ (t : Trace). length (atomWords (reasons (t .posts) ++ endReason (t .end))) ≤ length atoms) (sym trace-is) (omega (arith, atoms-fit, q));
-      }

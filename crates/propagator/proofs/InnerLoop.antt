@@ -1,11 +1,10 @@
 -- The inner loop: what it has got to, and how a turn goes on from there.
 use mathlib.Core.Path.{_≡_, refl, sym, ap, _∙_}
-use mathlib.Core.Bool.{Bool, true, false}
+use mathlib.Core.Bool.{Bool, true}
 use mathlib.Core.List.{List}
 use mathlib.Core.Logic.{inl, inr}
 use mathlib.Core.Option.{Option, some, none}
-use Prim.Native.Nat.{ℕ, suc, _<_}
-use native.Mathlib.Omega.{arith}
+use Prim.Native.Nat.{ℕ, suc}
 use lib.IntN.{ℤ}
 use lib.ListN.{getD}
 use Rattle.integers.specs.Moments.{zeroAt}
@@ -29,22 +28,14 @@ use Rattle.propagator.proofs.PostWords.{candidate-none, candidate-some}
 use Rattle.propagator.proofs.ConsideredTask as considering
 use Rattle.propagator.proofs.ConsideredTask.{shown, tall}
 
-abbrev is-task : Responsible → Bool
-is-task (responsible.Task id) = true
-is-task responsible.Nothing = false
-
-abbrev task-or : LocalId → Responsible → ℕ
-task-or other (responsible.Task id) = id .0
-task-or other responsible.Nothing = other .0
-
 -- what a search answered
 some-task : (reverseMapping : List ℕ) (u : Option ℕ) (id : LocalId) → responsible.Task id ≡ responsibleOf reverseMapping u → (x : ℕ) × (u ≡ some x) × (id .0 ≡ getD reverseMapping x 0)
-some-task reverseMapping none id z = clash {b = true} refl (ap is-task z)
-some-task reverseMapping (some x) id z = (x, refl, ap (task-or id) z)
+some-task reverseMapping none id z = clash {b = true} refl (cc)
+some-task reverseMapping (some x) id z = (x, refl, (cc))
 
 no-task : (reverseMapping : List ℕ) (u : Option ℕ) → responsible.Nothing ≡ responsibleOf reverseMapping u → u ≡ none
 no-task reverseMapping none z = refl
-no-task reverseMapping (some x) z = clash {b = true} refl (ap is-task (sym z))
+no-task reverseMapping (some x) z = cc
 
 module _ {size : TreeSize} {lct : ℕ} {words : List ℕ} {es posts atoms : List ℤ} {w : Written} {est lst durations reverseMapping mapping : List ℕ}
     (s : Considerable size lct words es posts atoms w est lst durations reverseMapping mapping) where
@@ -88,9 +79,6 @@ module _ {size : TreeSize} {lct : ℕ} {words : List ℕ} {es posts atoms : List
     abbrev found : Option ℕ
     found = leaves.responsible (s .J) (s .estOrder) (r .st .leaves)
 
-    found-small : (x : ℕ) → leaves.responsible (s .J) (s .estOrder) (r .st .leaves) ≡ some x → x < n
-    found-small x z = omega (arith, s .arrays .count, considering.found-inside still-considerable x z)
-
     -- no turn is left
     pub ended : left ≡ 0 → AllConsidered s all (turn.On w′) words′ es′ posts′ atoms′
     ended z = (r .st, r .at, r .rest ∙ ap (λ (f : ℕ). turns s f (r .st)) z ∙ inner-end zeroAt (s .J) (s .estOrder) (s .lctOrder) 0 (s .level) (r .st))
@@ -103,9 +91,9 @@ module _ {size : TreeSize} {lct : ℕ} {words : List ℕ} {es posts atoms : List
     pub one-left : {next : Responsible} {id : LocalId} → next ≡ responsible.Task id → Proposes size words′ reverseMapping lct next → (x : ℕ) × Responsible-for still-considerable (id .0) x
     one-left {id = id} is said = let z = said (shown still-considerable) (tall still-considerable) in
         elim (bool (exceeds bar lct)) [
-          | inr y ↦ clash {b = true} refl (ap is-task (sym is ∙ z ∙ sym (candidate-none reverseMapping lct bar found y)))
+          | inr y ↦ clash {b = true} refl (cc (candidate-none reverseMapping lct bar found y))
           | inl y ↦ (let (x, u, v) = some-task reverseMapping found id (sym is ∙ z ∙ sym (candidate-some reverseMapping lct bar found y)) in
-              (x, record { over = y; found = u; task = v ∙ s .arrays .reverse-mapping .at x (found-small x u) }))
+              (x, record { over = y; found = u; task = v ∙ s .arrays .reverse-mapping .at x (considering.found-inside still-considerable x u) }))
         ]
 
     -- a turn is taken

@@ -1,16 +1,18 @@
 -- A task leaves Theta: its leaf gets another colour, and the leaf of a level's task may.
 use mathlib.Core.Path.{_≡_, refl, sym, ap, subst, _∙_}
-use mathlib.Core.Bool.{Bool, true}
+use mathlib.Core.Bool.{Bool, true, false}
 use mathlib.Core.List.{List}
 use Prim.Native.Nat.{ℕ, zero, suc, _<_}
 use native.Mathlib.Omega.{arith}
 use lib.ListN.{getD, set}
 use Rattle.integers.specs.Orders.{index}
+use Rattle.integers.proofs.Bools.{clash}
 use Rattle.scheduling.specs.Scheduling.{natural, Tasks}
 use Rattle.trees.specs.declared.complete_tree.TreeSize.{TreeSize}
 use Rattle.trees.specs.Leaves.{Leaf, empty}
 use Rattle.trees.specs.Trees.{IsTree, HasLeaves}
 use Rattle.trees.specs.Operations.{Held, HeldLeaves, HasTask, LeafColoured}
+use Rattle.trees.proofs.RebuiltTrees.{tree-leaves}
 use Rattle.propagator.specs.RunArrays.{Ordered, Arrays}
 use Rattle.propagator.specs.LeavingTheta.{Movable, leftFor}
 
@@ -30,16 +32,24 @@ module _ {inner : ℕ} {words mapping est durations : List ℕ} {j : ℕ} {joine
   pub within : {k : ℕ} → k ≡ getD mapping j 0 → k < m .J .count
   within is = omega (arith, m .inside)
 
+  -- the leaf is laid, with other names for colour and words
+  pub laid-as : {c c′ : Leaf} (k : ℕ) {words′ words″ : List ℕ} → c ≡ c′ → words′ ≡ words″ → LeafColoured c′ shown-leaves k words″ → LeafColoured c shown-leaves k words′
+  laid-as k z e q = rw (z, e) q
+
   module _ (c : Leaf) {k : ℕ} (e : k ≡ getD mapping j 0) where
     -- the words with the leaf in its new colour
     abbrev pub laid : {words′ : List ℕ} → LeafColoured c shown-leaves k words′ → HeldLeaves inner words′
     laid q = record { J = m .J; estOrder = m .estOrder; leaves = set (m .leaves) k c; limited = m .limited; has = q }
 
-    pub moved-leaves : {words′ : List ℕ} → LeafColoured c shown-leaves k words′ → LeafColoured c shown-leaves (getD mapping j 0) words′
-    moved-leaves {words′} q = subst (λ (k : ℕ). LeafColoured c shown-leaves k words′) e q
+    -- the leaf is that of j, and the inner nodes are joined or are not to be
+    abbrev Left : List ℕ → Bool → Type 0
+    Left words′ joins = LeafColoured c shown-leaves (getD mapping j 0) words′ × (joins ≡ true → IsTree (m .J) (m .estOrder) (set (m .leaves) (getD mapping j 0) c) inner words′)
 
-    pub moved : {words′ : List ℕ} → IsTree (m .J) (m .estOrder) (set (m .leaves) k c) inner words′ → IsTree (m .J) (m .estOrder) (set (m .leaves) (getD mapping j 0) c) inner words′
-    moved {words′} q = subst (λ (k : ℕ). IsTree (m .J) (m .estOrder) (set (m .leaves) k c) inner words′) e q
+    pub all-joined : {words′ : List ℕ} {joins : Bool} → IsTree (m .J) (m .estOrder) (set (m .leaves) k c) inner words′ → Left words′ joins
+    all-joined q = rw (← e) (tree-leaves (m .limited) q, λ _. q)
+
+    pub none-joined : {words′ : List ℕ} {joins : Bool} → LeafColoured c shown-leaves k words′ → joins ≡ false → Left words′ joins
+    none-joined q not = rw (← e) (q, λ z. clash z not)
 
 -- a task whose turn is known leaves an empty leaf
 pub left-empty : (taken : ℕ) → (taken ≡ 0 → ⊥) → leftFor taken ≡ empty

@@ -2,7 +2,6 @@ pub mod ExplanationInput
 pub mod PostWords
 pub mod ConsideredTask
 pub mod InnerLoop
-pub mod OverloadReason
 pub mod LeavingTheta
 pub mod FirstCandidate
 pub mod OuterLoop

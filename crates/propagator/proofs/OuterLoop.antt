@@ -27,9 +27,8 @@ use Rattle.trees.proofs.RebuiltTrees.{tree-leaves}
 use Rattle.runs.specs.Traces.{Trace, End, done, overload, emptied}
 use Rattle.runs.specs.Runs.{State, Turn, on, conflict, inner, outer, run, ended, grayed, dropped, allWhite}
 use Rattle.scheduling.specs.Words.{atomWords}
-use Rattle.runs.specs.Words.{postWords, reasons, endReason}
+use Rattle.runs.specs.Words.{reasons, endReason}
 use Rattle.runs.proofs.WrittenSlices.{reason-stored}
-use Rattle.runs.proofs.LeafChanges.{reached-changes}
 use Rattle.runs.proofs.QuietLevels as quiet-levels
 use Rattle.runs.proofs.QuietLevels.{ect-bar-no-later}
 use Rattle.runs.proofs.InnerLoop.{run-is, inner-end, inner-pass, outer-end, outer-over, outer-on, outer-stop}
@@ -45,11 +44,10 @@ use Rattle.runs.specs.declared.outcome.Outcome.the-variants as outcome
 use Rattle.runs.specs.declared.outcome.Finished.{Finished}
 use Rattle.propagator.specs.LeavingTheta.{Movable, Recoloured, KnownTurns, leftFor}
 use Rattle.runs.specs.Outcomes.{outcomeNumbers}
-use Rattle.runs.specs.EndNumbers.{endNumbers, traceNumbers}
+use Rattle.runs.specs.EndNumbers.{endNumbers}
 use Rattle.propagator.specs.EdgeFinding.{HeldPast, conflictOf, ConflictExplained, EdgeFindable, EdgeFound}
 use Rattle.propagator.proofs.FirstCandidate.{IsFirst, level-first}
 use Rattle.propagator.proofs.LeavingTheta as leaving
-use Rattle.propagator.proofs.OverloadReason as overloading
 
 module _ {size : TreeSize} {first : ℕ} {past : Bool} {words : List ℕ} {es posts atoms : List ℤ} {est lst lct durations reverseMapping sortedTasks mapping : List ℕ}
     (s : EdgeFindable size first past words es posts atoms est lst lct durations reverseMapping sortedTasks mapping) where
@@ -151,11 +149,11 @@ module _ {size : TreeSize} {first : ℕ} {past : Bool} {words : List ℕ} {es po
         → atoms″ ≡ sets atoms 0 (atomWords (reasons (st .posts) ++ endReason end))
         → EdgeFound J estOrder lctOrder posts atoms (r .outcome) (r .changes) es′ posts′ atoms″
     ends y x z = record {
-      answer = y ∙ sym (ap traceNumbers is);
-      changes = x ∙ a .counted ∙ sym (ap (λ (t : Trace). t .changes) is);
-      starts = a .starts ∙ sym (ap (λ (t : Trace). t .starts) is);
-      post-words = a .post-words ∙ sym (ap (λ (t : Trace). sets posts 0 (postWords 0 (t .posts))) is);
-      atom-words = z ∙ sym (ap (λ (t : Trace). sets atoms 0 (atomWords (reasons (t .posts) ++ endReason (t .end)))) is);
+      answer = rw is y;
+      changes = rw is (x ∙ a .counted);
+      starts = rw is (a .starts);
+      post-words = rw is (a .post-words);
+      atom-words = rw is z;
     }
 
     -- with no reason more
@@ -208,13 +206,7 @@ module _ {size : TreeSize} {first : ℕ} {past : Bool} {words : List ℕ} {es po
       next = omega arith
 
       pub few-changes : w′ .changes ≤ 4 * TASKS
-      few-changes = omega (
-        arith,
-        v .slices .counted,
-        reached-changes zeroAt J (G .proper) estOrder lctOrder (G .by-earliest) (G .by-completion) t (v .st) (at-head t (v .st) (v .entered)) small-t,
-        v .small,
-        few,
-      )
+      few-changes = considering.changes-few G (at-head t (v .st) (v .entered)) small-t (v .slices)
 
       -- where the ect_bar known last is past the level's lct, the inner nodes are joined
       pub joined-past : c < last → joined ≡ true
@@ -238,7 +230,7 @@ module _ {size : TreeSize} {first : ℕ} {past : Bool} {words : List ℕ} {es po
         shown = considering.shown here
 
         pub over-asked : ConflictExplainable (length atoms′) (w′ .atoms) (thetaIn words′ inn reverseMapping n) est durations (leaves.sum J estOrder (v .st .leaves)) c
-        over-asked = overloading.over-asked here over
+        over-asked = considering.over-asked here over
 
         pub size-fits : SizeFits size
         size-fits = considering.size-fits here
@@ -251,7 +243,7 @@ module _ {size : TreeSize} {first : ℕ} {past : Bool} {words : List ℕ} {es po
             reason = conflict zeroAt J end (leaves.sum J estOrder (v .st .leaves)) (leaves.theta J estOrder (v .st .leaves))
 
             reason-is : conflictOf shown reverseMapping n est durations c ≡ reason
-            reason-is = overloading.conflict-is here
+            reason-is = considering.conflict-is here
 
             is : whole ≡ ended zeroAt J estOrder lctOrder (v .st) (overload reason)
             is = v .rest ∙ ap (λ (f : ℕ). rest-of f t (v .st)) next ∙ outer-over zeroAt J estOrder lctOrder (n - 1 - suc t) t (v .st) (past-end over)

@@ -25,12 +25,11 @@ use trees::theta_lambda_tree::ThetaLambdaTree;
 ghost use mathlib.Core.Bool.{_||_};
 ghost use mathlib.Core.Path.{_≡_};
 ghost use Prim.Native.Nat.{_≤_, _<_, ℕ, _+_, _*_, _^_};
-ghost use mathlib.Core.List.{List};
 ghost use lib.ListN.{length, getD};
 ghost use Rattle.integers.specs.Limits.{ATOMS, TASKS};
 ghost use Rattle.records.specs.Records.{recordOf};
 ghost use Rattle.trees.specs.Ects.{exceeds, raisedTo};
-ghost use Rattle.trees.specs.Leaves.{empty, gray, ect, ect-bar, sum};
+ghost use Rattle.trees.specs.Leaves.{ect, ect-bar, sum};
 ghost use Rattle.trees.specs.ArraySearches.{thetaIn};
 ghost use Rattle.trees.specs.Operations.{Held, HeldLeaves, Answers, Tall};
 ghost use Rattle.explanations.specs.Explanations.{ConflictExplainable, PropagationExplainable};
@@ -324,7 +323,8 @@ fn known_turns(
     0
 }
 
-// Task j leaves Theta: for Lambda, or for neither where its turn is known.
+// Task j leaves Theta: for Lambda, or for neither where its turn is known. The source empties its leaf first; the new leaf goes over the white one here, which
+// leaves the same tree. The inner nodes are joined only where they are to be: the leaf's ancestors, or all of them where they were not joined before.
 fn leave_theta<'a>(
     nodes: &mut [u32; TREEWORDS],
     mapping: &'a [u32; TASKS],
@@ -340,29 +340,6 @@ fn leave_theta<'a>(
     ensures { λ _. ⌜ Recoloured (leftFor taken) (size .inner) (now (nodes .entry)) (now (nodes .exit)) (now (mapping .entry)) (now (est .entry))
         (now (durations .entry)) j joined joins ⌝ }
 {
-    if taken == 0 {
-        move_to_lambda(nodes, mapping, est, durations, size, j, joined, joins);
-        return;
-    }
-    take_out(nodes, mapping, size, j, joined, joins);
-}
-
-// Moves task j from Theta to Lambda. The source empties its leaf first; the gray leaf goes over the white one here, which leaves the same tree. The inner nodes
-// are joined only where they are to be: the leaf's ancestors, or all of them where they were not joined before.
-fn move_to_lambda<'a>(
-    nodes: &mut [u32; TREEWORDS],
-    mapping: &'a [u32; TASKS],
-    est: &'a [u32; TASKS],
-    durations: &'a [u32; TASKS],
-    size: TreeSize,
-    j: usize,
-    joined: bool,
-    joins: bool,
-)
-    requires { ⌜ Movable (size .inner) (now nodes) (now mapping) (now est) (now durations) j joined ⌝ }
-    ensures { λ _. ⌜ Recoloured gray (size .inner) (now (nodes .entry)) (now (nodes .exit)) (now (mapping .entry)) (now (est .entry))
-        (now (durations .entry)) j joined joins ⌝ }
-{
     let place = leaf_of(mapping, LocalId(j));
     let task = DisjunctiveTask {
         start_time: est[j],
@@ -370,34 +347,18 @@ fn move_to_lambda<'a>(
         id: LocalId(j),
     };
     if joined && joins {
-        ThetaLambdaTree::add_to_lambda(nodes, size.inner, place, task);
-        return;
-    }
-    ThetaLambdaTree::lay_in_lambda(nodes, size.inner, place, task);
-    if joins {
-        ThetaLambdaTree::rebuild(nodes, size.inner);
-    }
-}
-
-// Takes task j out of Theta, and joins the inner nodes as `move_to_lambda` does.
-fn take_out(
-    nodes: &mut [u32; TREEWORDS],
-    mapping: &[u32; TASKS],
-    size: TreeSize,
-    j: usize,
-    joined: bool,
-    joins: bool,
-)
-    requires { ⌜ ((est durations : List ℕ) × Movable (size .inner) (now nodes) (now mapping) est durations j joined) ⌝ }
-    ensures { λ _. ⌜ ((est durations : List ℕ) → Recoloured empty (size .inner) (now (nodes .entry)) (now (nodes .exit)) (now (mapping .entry))
-        est durations j joined joins) ⌝ }
-{
-    let place = leaf_of(mapping, LocalId(j));
-    if joined && joins {
+        if taken == 0 {
+            ThetaLambdaTree::add_to_lambda(nodes, size.inner, place, task);
+            return;
+        }
         ThetaLambdaTree::remove_from_theta(nodes, size.inner, place);
         return;
     }
-    ThetaLambdaTree::lay_empty(nodes, size.inner, place);
+    if taken == 0 {
+        ThetaLambdaTree::lay_in_lambda(nodes, size.inner, place, task);
+    } else {
+        ThetaLambdaTree::lay_empty(nodes, size.inner, place);
+    }
     if joins {
         ThetaLambdaTree::rebuild(nodes, size.inner);
     }

@@ -1,20 +1,14 @@
 -- ω passes lct (`overflow`), so that delta and its two shares are natural numbers; the atoms are those of `conflict`.
-use mathlib.Core.Path.{sym, subst}
 use mathlib.Core.Bool.{Bool}
-use mathlib.Core.List.{List}
 use Prim.Native.Nat.{ℕ}
 use native.Mathlib.Omega.{arith}
 use lib.ListN.{length}
 use borrow.Author.Needs.{needs}
-use Rattle.integers.specs.Moments.{zeroAt}
-use Rattle.runs.specs.Runs.{conflict}
 use Rattle.trees.specs.ArraySearches.{whiteIn, taskIn}
-use Rattle.explanations.specs.Walks.{between}
-use Rattle.explanations.specs.WrittenAtoms.{starting}
-use Rattle.post_words.specs.StoredAtoms.{Stored}
+use Rattle.explanations.specs.Walks.{between, Known}
 use Rattle.explanations.specs.Explanations.{ConflictExplainable}
 use Rattle.explanations.proofs.LeafWalk.{all-leaves}
-use Rattle.explanations.proofs.StoredReasons.{Overflow, overflow, overload-walk, overload-known, overload-stops, overload-writable, conflict-stored}
+use Rattle.explanations.proofs.StoredReasons.{each-there, white-writable, conflict-stored, Overflow, overload-walk, overload-stops, overflow}
 use Rattle.explanations.proofs.explanations.create_conflict_explanation.Statement.{statement}
 use Rattle.explanations.proofs.explanations.create_conflict_explanation.Tie as tie
 
@@ -26,8 +20,7 @@ tasks c = taskIn (c .args .reverse-mapping .now)
 
 -- what is asked, of the leaves
 given : (c : tie.Start) → let a = c .args in ConflictExplainable (length (a .atoms .now)) (a .k) (between (white c) (tasks c) 0 (a .n)) (a .est .now) (a .durations .now) (a .p-theta) (a .lct)
-given c = let a = c .args in subst (λ (ks : List ℕ). ConflictExplainable (length (a .atoms .now)) (a .k) ks (a .est .now) (a .durations .now) (a .p-theta) (a .lct))
-    (all-leaves (white c) (tasks c) (a .n)) (c .pre .0)
+given c = rw (all-leaves (white c) (tasks c) (c .args .n)) at (c .pre .0)
 
 -- what ω passes lct by
 abbrev start : tie.After-preceding → tie.Start
@@ -36,21 +29,21 @@ start c = c .before .before .before
 abbrev walk : tie.After-of-leaf → tie.After-preceding
 walk c = c .before .before
 
-numbers : (c : tie.After-of-leaf) → let w = walk c in let s = start w in Overflow (white s) (tasks s) 0 (s .args .n) (given s) (w .preceding .ensures) (c .of-leaf .result)
-numbers c = let w = walk c in let s = start w in overflow (white s) (tasks s) 0 (s .args .n) (given s) (w .preceding .ensures) (c .of-leaf .ensures)
+numbers : (c : tie.After-of-leaf) → let w = walk c in let s = start w in Overflow (s .args .lct) (w .preceding .result .lasts) (c .of-leaf .result)
+numbers c = let w = walk c in let s = start w in overflow (given s) (w .preceding .ensures) (c .of-leaf .ensures)
 
 preceding-requires : tie.Need-preceding-requires
-preceding-requires c κs = let s = c .before .before in (overload-walk (white s) (tasks s) 0 (s .args .n) (given s), s .pre .1, s .pre .2)
+preceding-requires c κs = let s = c .before .before in (overload-walk (given s), s .pre .1, s .pre .2)
 
 of-leaf-requires : tie.Need-of-leaf-requires
 of-leaf-requires c κs = let w = c .before in let s = start w in
-    (omega (arith, w .preceding .ensures .small, s .pre .1), overload-known (white s) (tasks s) 0 (s .args .n) (given s) (w .preceding .ensures) .start)
+    (omega (arith, w .preceding .ensures .small, s .pre .1), each-there (w .preceding .ensures) (Known (s .args .est .now) (s .args .durations .now)) (given s .white .known) .start)
 
 write-within-requires : tie.Need-write-within-requires
 write-within-requires c κs =
     let w = walk (c .before) in
     let s = start w in (
-      overload-writable (white s) (tasks s) 0 (s .args .n) (given s) (w .preceding .ensures) (omega (arith, numbers (c .before))),
+      white-writable (w .preceding .ensures) (given s .white) (omega (arith, numbers (c .before))) (given s .room),
       omega (arith, w .preceding .ensures .small),
       s .pre .1,
       s .pre .2,
@@ -62,16 +55,13 @@ returns c =
     let w = walk at in
     let s = start w in
     let a = s .args in
-    subst (λ (ks : List ℕ). Stored (a .atoms .now) (c .before .write-within .last .0) (a .k) (c .before .write-within .result)
-    (conflict zeroAt (starting (a .est .now) (a .durations .now)) (a .lct) (a .p-theta) ks)) (sym (all-leaves (white s) (tasks s) (a .n)))
-    (conflict-stored (white s) (tasks s) (a .est .now) (a .durations .now) 0 (a .n) (a .p-theta) (w .preceding .result .first .0) (w .preceding .result .lasts) (given s .white .total) (a .lct)
-    (overload-stops (white s) (tasks s) 0 (a .n) (given s) (w .preceding .ensures))
-    (at .of-leaf .ensures) (c .before .write-within .ensures))
+    rw (all-leaves (white s) (tasks s) (a .n))
+    (conflict-stored (a .est .now) (given s .white .total) (a .lct) (overload-stops (given s) (w .preceding .ensures)) (at .of-leaf .ensures) (c .before .write-within .ensures))
 
 pub create-conflict-explanation-spec : {M : Type 1} → statement M
 create-conflict-explanation-spec =
     tie.close
     (tie.spec
     preceding-requires of-leaf-requires (λ c. omega (arith, numbers c)) (λ c. omega (arith, numbers c))
-    (λ c. omega (arith, numbers c)) (λ c. search needs) (λ c. omega (arith, numbers c))
-    (λ c. omega (arith, numbers c)) write-within-requires (λ c. search needs) returns)
+    (λ c. omega (arith, numbers c)) (λ c. search needs) (λ c. omega (arith, numbers c)) (λ c. omega (arith, numbers c))
+    write-within-requires (λ c. search needs) returns)

@@ -1,11 +1,10 @@
 -- The invariant `WalkedTo`: x is a leaf of Θ, the tasks from it on last p_omega, and none before it passes lct. One task does, so the walk stops inside.
-use Prim.Native.Nat.{ℕ, _+_, _-_, _<_, _^_}
+use Prim.Native.Nat.{_-_}
 use native.Mathlib.Omega.{arith}
-use lib.ListN.{getD}
 use borrow.Author.Needs.{needs}
 use Rattle.trees.specs.ArraySearches.{whiteIn, taskIn}
-use Rattle.explanations.specs.Walks.{Known, Precedes}
-use Rattle.explanations.proofs.LeafWalk.{WalkedTo, sets-out, enough-there, most-there, known-there, walks-on, halts}
+use Rattle.explanations.specs.Walks.{Precedes}
+use Rattle.explanations.proofs.LeafWalk.{WalkedTo, sets-out, enough-there, known-there, sum-there, walks-on, halts}
 use Rattle.explanations.proofs.walks.preceding.Statement.{statement}
 use Rattle.explanations.proofs.walks.preceding.Tie as tie
 
@@ -18,28 +17,6 @@ abbrev μ-loop : tie.MeasureT-loop
 
 abbrev start : tie.At-loop Inv-loop μ-loop → tie.Start Inv-loop μ-loop
 start c = c .before .before .before .before
-
--- the task of the leaf that the walk has reached
-abbrev here : tie.At-loop Inv-loop μ-loop → ℕ
-here c = taskIn (start c .args .reverse-mapping .now) (c .loop .x .0)
-
-task : (c : tie.At-loop Inv-loop μ-loop) → Known (start c .args .est .now) (start c .args .durations .now) (here c)
-task c = known-there (c .loop .inv) (Known (start c .args .est .now) (start c .args .durations .now)) (start c .pre .0 .known)
-
--- no sum wraps there
-sum : (c : tie.At-loop Inv-loop μ-loop) → getD (start c .args .est .now) (here c) 0 + c .loop .p-omega + start c .args .p-propagated < 2 ^ 32
-sum c = let a = start c .args in omega (
-  arith,
-  known-there (c .loop .inv) (λ k. getD (a .est .now) k 0 + a .p-theta + a .p-propagated < 2 ^ 32) (start c .pre .0 .fits),
-  most-there (c .loop .inv),
-  start c .pre .0 .total,
-)
-
-loop-holds : tie.Need-loop-holds Inv-loop μ-loop
-loop-holds c = sets-out (c .before .before .before .pre .0 .total) (c .before .before .before .pre .0 .stops) (c .next-in-theta .ensures)
-
-of-leaf-requires-2 : tie.Need-of-leaf-requires-2 Inv-loop μ-loop
-of-leaf-requires-2 c κs = (omega (arith, c .before .before .before .loop .inv .small), task (c .before .before .before) .duration)
 
 next-in-theta-requires-2 : tie.Need-next-in-theta-requires-2 Inv-loop μ-loop
 next-in-theta-requires-2 c κs = let at = c .before .before .before .before .before in (omega (arith, at .loop .inv .small), start at .pre .1, start at .pre .2)
@@ -61,9 +38,13 @@ pub preceding-spec : {M : Type 1} → statement M
 preceding-spec =
     tie.close
     (tie.spec
-    Inv-loop μ-loop (λ c κs. search needs) loop-holds (λ c κs. (omega (arith, c .loop .inv .small), task c .start))
-    (λ c κs. search needs) (λ c. omega (arith, c .min .ensures, c .before .of-leaf .ensures, sum (c .before .before)))
-    (λ c. omega (arith, c .min .ensures, c .before .of-leaf .ensures, sum (c .before .before))) of-leaf-requires-2
+    Inv-loop μ-loop (λ c κs. search needs)
+    (λ c. sets-out (c .before .before .before .pre .0) (c .next-in-theta .ensures))
+    (λ c κs. (omega (arith, c .loop .inv .small), known-there (c .loop .inv) (start c .pre .0) .start))
+    (λ c κs. search needs)
+    (λ c. let at = c .before .before in omega (arith, c .min .ensures, c .before .of-leaf .ensures, sum-there (at .loop .inv) (start at .pre .0)))
+    (λ c. let at = c .before .before in omega (arith, c .min .ensures, c .before .of-leaf .ensures, sum-there (at .loop .inv) (start at .pre .0)))
+    (λ c κs. let at = c .before .before .before in (omega (arith, at .loop .inv .small), known-there (at .loop .inv) (start at .pre .0) .duration))
     (λ c. omega (arith, c .of-leaf2 .ensures, enough-there (c .before .before .before .before .loop .inv)))
-    (λ c. omega (arith, c .before .before .before .before .before .loop .inv .small)) next-in-theta-requires-2
-    loop-less loop-again returns)
+    (λ c. omega (arith, c .before .before .before .before .before .loop .inv .small)) next-in-theta-requires-2 loop-less
+    loop-again returns)

@@ -1,18 +1,15 @@
 -- The invariant `Written`: the atoms of Θ's tasks before leaf x stand from place k up to `at`, and the rest is unchanged.
-use mathlib.Core.Path.{_≡_, sym, ap, subst, _∙_}
+use mathlib.Core.Path.{_≡_, ap, _∙_}
 use mathlib.Core.Bool.{Bool, true}
-use mathlib.Core.List.{List, [], _∷_}
+use mathlib.Core.List.{[], _∷_}
 use Prim.Native.Nat.{ℕ, _+_, _-_, _*_, _≤_, _<_}
 use native.Mathlib.Omega.{arith}
 use lib.ListN.{length}
 use lib.Seq.{length-sets}
 use borrow.Author.Needs.{needs}
-use Rattle.integers.specs.Moments.{zeroAt}
-use Rattle.runs.specs.Runs.{within}
 use Rattle.trees.specs.ArraySearches.{whiteIn, taskIn}
 use Rattle.explanations.specs.Walks.{between}
-use Rattle.explanations.specs.WrittenAtoms.{lasting, Ends, Writable}
-use Rattle.post_words.specs.StoredAtoms.{Stored}
+use Rattle.explanations.specs.WrittenAtoms.{Ends}
 use Rattle.explanations.proofs.LeafWalk.{between-none, between-white, next-same}
 use Rattle.explanations.proofs.WrittenAtoms.{Written, lower, written-none, written-more, written-all}
 use Rattle.explanations.proofs.walks.write_within.Statement.{statement}
@@ -43,12 +40,9 @@ here : (c : tie.After-task-of Inv-loop μ-loop) → let w = at-leaf c in let a =
     (c .task-of .result .0 ∷ between (white w) (tasks w) (l .x .0 + 1) (a .to)) (l .at)
 here c =
     let w = at-leaf c in
-    let a = start w .args in
     let l = w .loop in
-    let small : l .x .0 < a .to = omega arith in
-    subst (λ (rest : List ℕ). Written (a .atoms .now) (a .k) (between (white w) (tasks w) (w .before .next-in-theta .result .0) (a .to)) (a .durations .now) (a .low) (a .high) (l .atoms) rest (l .at))
-    (between-white (white w) (tasks w) (l .x .0) (a .to) small (l .inv .1 small) ∙ ap (λ (t : ℕ). t ∷ between (white w) (tasks w) (l .x .0 + 1) (a .to)) (sym (c .task-of .ensures)))
-    (l .inv .2)
+    let small : l .x .0 < start w .args .to = omega arith in
+    rw (between-white (white w) (tasks w) (l .x .0) (start w .args .to) small (l .inv .1 small), ← c .task-of .ensures) at (l .inv .2)
 
 -- that task can end in time, and there is room for its atoms
 task : (c : tie.After-task-of Inv-loop μ-loop) → Ends (start (at-leaf c) .args .durations .now) (start (at-leaf c) .args .high) (c .task-of .result .0)
@@ -68,12 +62,8 @@ length-first c = let w = at-leaf (turn c) in let a = start w .args in
 loop-holds : tie.Need-loop-holds Inv-loop μ-loop
 loop-holds c =
     let a = c .before .before .args in
-    let next = c .next-in-theta .ensures in (
-      next .to,
-      next .found,
-      written-none (subst (λ (ks : List ℕ). Writable (length (a .atoms .now)) (a .k) ks (a .durations .now) (a .high))
-          (next-same (whiteIn (a .nodes .now) (a .inner)) (taskIn (a .reverse-mapping .now)) next) (c .before .before .pre .0)),
-    )
+    let next = c .next-in-theta .ensures in
+    (next .to, next .found, written-none (rw (next-same (whiteIn (a .nodes .now) (a .inner)) (taskIn (a .reverse-mapping .now)) next) at (c .before .before .pre .0)))
 
 write-atom-requires-2 : tie.Need-write-atom-requires-2 Inv-loop μ-loop
 write-atom-requires-2 c κs = (omega (arith, length-first (c .before .before .before), room (c .before .before .before .before .before)), task (c .before .before .before .before .before) .task)
@@ -88,15 +78,10 @@ loop-again : tie.Need-loop-again Inv-loop μ-loop
 loop-again c =
     let made = c .before .before .before .before .before .before .before in
     let w = at-leaf (turn made) in
-    let a = start w .args in
-    let l = w .loop in
     let next = c .next-in-theta2 .ensures in (
       next .to,
       next .found,
-      subst (λ (rest : List ℕ). Written (a .atoms .now) (a .k) (between (white w) (tasks w) (w .before .next-in-theta .result .0) (a .to)) (a .durations .now) (a .low) (a .high)
-          (c .before .before .before .write-atom2 .last .0) rest (l .at + 2))
-          (next-same (white w) (tasks w) next)
-          (written-more (here (turn made)) (made .write-atom .ensures) (c .before .before .before .write-atom2 .ensures)),
+      rw (next-same (white w) (tasks w) next) at (written-more (here (turn made)) (made .write-atom .ensures) (c .before .before .before .write-atom2 .ensures)),
     )
 
 returns : tie.Need-returns Inv-loop μ-loop
@@ -106,11 +91,7 @@ returns c =
     let l = w .loop in
     let all : l .x .0 ≡ a .to = omega (arith, l .inv .0) in
     let none : between (white w) (tasks w) (l .x .0) (a .to) ≡ [] = ap (λ (x : ℕ). between (white w) (tasks w) x (a .to)) all ∙ between-none (white w) (tasks w) (a .to) in
-    subst (λ (ks : List ℕ). Stored (a .atoms .now) (l .atoms) (a .k) (l .at) (within zeroAt (lasting (a .durations .now)) (a .low) (a .high) ks))
-    (sym (next-same (white w) (tasks w) (w .before .next-in-theta .ensures)))
-    (written-all (subst (λ (rest : List ℕ). Written (a .atoms .now) (a .k) (between (white w) (tasks w) (w .before .next-in-theta .result .0) (a .to)) (a .durations .now) (a .low) (a .high)
-    (l .atoms) rest
-    (l .at)) none (l .inv .2)))
+    rw (next-same (white w) (tasks w) (w .before .next-in-theta .ensures)) (written-all (rw none at (l .inv .2)))
 
 pub write-within-spec : {M : Type 1} → statement M
 write-within-spec =

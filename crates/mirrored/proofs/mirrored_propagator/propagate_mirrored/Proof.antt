@@ -39,7 +39,7 @@ mirror-words-requires c κs =
     let e = ran .before .before .before .before .before .before in
     let s = e .before .before .before .before .before in
     let a = s .args in
-    words-mirrorable (a .t1) (a .earliest .now) (a .latest .now) (length (a .posts .now)) (length (a .atoms .now)) (passed e .0) (long s) (ran .run-in-mirror .ensures (a .t1 .total))
+    words-mirrorable (passed e .0) (long s) (ran .run-in-mirror .ensures (a .t1 .total))
 
 returns-2 : tie.Need-returns-2
 returns-2 c =
@@ -50,8 +50,8 @@ returns-2 c =
     let r = ran .run-in-mirror .ensures (a .t1 .total) in
     record {
       refused = λ h. absurd (h (accepted-run (a .t1) (a .earliest .now) (a .latest .now) (a .bars-fit) (length (a .posts .now)) (length (a .atoms .now)) .1 (passed e)));
-      accepted = λ z. left-mirrored (a .t1) (a .earliest .now) (a .latest .now) (length (a .posts .now)) (length (a .atoms .now)) (passed e .0) (long s) r (omega arith) (omega arith)
-          (c .before .before .mirror-words .ensures (words-mirrorable (a .t1) (a .earliest .now) (a .latest .now) (length (a .posts .now)) (length (a .atoms .now)) (passed e .0) (long s) r));
+      accepted = λ z. left-mirrored (passed e .0) (long s) r (omega arith) (omega arith)
+          (c .before .before .mirror-words .ensures (words-mirrorable (passed e .0) (long s) r));
     }
 
 pub propagate-mirrored-spec : {M : Type 1} → statement M

@@ -15,9 +15,6 @@ use Rattle.mirrored.proofs.mirrored_time.atoms_of_posts.Tie as tie
 last : (c : tie.Else1) → Last (c .before .args .posts .now) (c .before .args .count) (length (reasons (c .before .pre .posts)))
 last c = last-countable (c .before .pre) (omega arith)
 
-returns : tie.Need-returns
-returns c = λ k. none-countable k (omega arith)
-
 first-atom-requires : tie.Need-first-atom-requires
 first-atom-requires c κs =
     let l = last c in
@@ -37,5 +34,5 @@ pub atoms-of-posts-spec : {M : Type 1} → statement M
 atoms-of-posts-spec =
     tie.close
     (tie.spec
-    returns (λ c. search needs) first-atom-requires (λ c. search needs) atom-count-requires (λ c. search needs)
-    (λ c. search needs) returns-2)
+    (λ c. λ k. none-countable k (omega arith)) (λ c. search needs) first-atom-requires (λ c. search needs)
+    atom-count-requires (λ c. search needs) (λ c. search needs) returns-2)

@@ -22,16 +22,15 @@ unfolding up dn
 less-fits z h k = fits-show w32 (pos 1 -ℤ z) (omega (ints, subℤ (pos 1) z)) (omega (ints, subℤ (pos 1) z))
 
 sub-words : tie.Need-sub-words
-sub-words c = subst (SFits w32) (sym (less (getD (c .before .args .words .now) (c .before .args .at) (pos 0)) (c .words .given)))
-    (less-fits (getD (c .before .args .words .now) (c .before .args .at) (pos 0)) (c .before .pre .1) (c .before .pre .2))
+sub-words c = let s = c .before in let z = getD (s .args .words .now) (s .args .at) (pos 0) in
+    subst (SFits w32) (sym (less z (c .words .given))) (less-fits z (s .pre .1) (s .pre .2))
 
 returns : tie.Need-returns
 returns c =
-    let a = c .before .args in
-    ap (λ (v : ℤ). set (a .words .now) (a .at) v)
-    (ap (λ (v : ℤ). toZ w32 (ofZ w32 v)) (less (getD (c .before .args .words .now) (c .before .args .at) (pos 0)) (c .words .given))
-    ∙ toZ-ofZ w32 (pos 1 -ℤ (getD (c .before .args .words .now) (c .before .args .at) (pos 0)))
-    (less-fits (getD (c .before .args .words .now) (c .before .args .at) (pos 0)) (c .before .pre .1) (c .before .pre .2)))
+    let s = c .before in
+    let z = getD (s .args .words .now) (s .args .at) (pos 0) in
+    ap (λ (v : ℤ). set (s .args .words .now) (s .args .at) v)
+    (ap (λ (v : ℤ). toZ w32 (ofZ w32 v)) (less z (c .words .given)) ∙ toZ-ofZ w32 (pos 1 -ℤ z) (less-fits z (s .pre .1) (s .pre .2)))
 
 pub mirror-kind-spec : {M : Type 1} → statement M
 mirror-kind-spec =

@@ -32,23 +32,20 @@ module _ (x : ℤ) (p : ℕ) (h : SFits w32 x) (k : p < 2 ^ 32) (f : SFits w32 (
   whole : toZ w64 (ofZ w64 (pos 0 -ℤ toZ w64 (ofZ w64 (toZ w64 (ofZ w64 (toZ w32 (ofZ w32 x))) +ℤ toZ w64 p)))) ≡ mirrorStart p x
   whole = ap (λ (z : ℤ). toZ w64 (ofZ w64 z)) diff ∙ toZ-ofZ w64 (mirrorStart p x) (sfits-widen tt f)
 
-cast-result : tie.Need-cast-result
-cast-result c = subst (SFits w64) (sym (toZ-ofZ w32 (c .args .x) (c .fits .x))) (sfits-widen tt (c .fits .x))
-
 cast-result-2 : tie.Need-cast-result-2
 cast-result-2 c = search needs
 
 add-result : tie.Need-add-result
 add-result c = subst (SFits w64) (sym (sum _ _ (c .fits .x) (c .fits .p .fits))) (sum-fits _ _ (c .fits .x) (c .fits .p .fits))
 
-sub-result : tie.Need-sub-result
-sub-result c = subst (SFits w64) (sym (diff _ _ (c .fits .x) (c .fits .p .fits) (c .pre))) (sfits-widen tt (c .pre))
-
-cast-result-3 : tie.Need-cast-result-3
-cast-result-3 c = subst (SFits w32) (sym (whole _ _ (c .fits .x) (c .fits .p .fits) (c .pre))) (c .pre)
-
 returns : tie.Need-returns
 returns c = ap (λ (z : ℤ). toZ w32 (ofZ w32 z)) (whole _ _ (c .fits .x) (c .fits .p .fits) (c .pre)) ∙ toZ-ofZ w32 _ (c .pre)
 
 pub mirror-start-spec : {M : Type 1} → statement M
-mirror-start-spec = tie.close (tie.spec cast-result cast-result-2 add-result sub-result cast-result-3 returns)
+mirror-start-spec =
+    tie.close
+    (tie.spec
+    (λ c. subst (SFits w64) (sym (toZ-ofZ w32 (c .args .x) (c .fits .x))) (sfits-widen tt (c .fits .x))) cast-result-2
+    add-result
+    (λ c. subst (SFits w64) (sym (diff _ _ (c .fits .x) (c .fits .p .fits) (c .pre))) (sfits-widen tt (c .pre)))
+    (λ c. subst (SFits w32) (sym (whole _ _ (c .fits .x) (c .fits .p .fits) (c .pre))) (c .pre)) returns)

@@ -16,9 +16,6 @@ use Rattle.mirrored.proofs.mirrored_time.mirror_word.Tie as tie
 task : (c : tie.After-nat-of) → c .nat-of .result ≡ natAbs (getD (c .before .before .args .words .now) (c .before .before .args .of) (pos 0))
 task c = let a = c .before .before .args in ap natAbs (c .nat-of .ensures ∙ back-of w32 (getD (a .words .now) (a .of) (pos 0)) (c .before .nat-of-arg .given))
 
-element-copy-out-mirror-start : tie.Need-element-copy-out-mirror-start
-element-copy-out-mirror-start c = omega (arith, task (c .before), c .before .before .before .pre .known)
-
 mirror-start-requires : tie.Need-mirror-start-requires
 mirror-start-requires c κs =
     let s = c .before .before .before .before in
@@ -40,5 +37,6 @@ mirror-word-spec =
     tie.close
     (tie.spec
     (λ c. search needs) (λ c. search needs) (λ c κs. search needs) (λ c. search needs) (λ c. search needs)
-    (λ c. search needs) (λ c. search needs) element-copy-out-mirror-start mirror-start-requires (λ c. search needs)
-    (λ c. search needs) (λ c. search needs) returns)
+    (λ c. search needs) (λ c. search needs)
+    (λ c. omega (arith, task (c .before), c .before .before .before .pre .known)) mirror-start-requires
+    (λ c. search needs) (λ c. search needs) (λ c. search needs) returns)

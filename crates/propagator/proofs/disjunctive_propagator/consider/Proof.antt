@@ -16,12 +16,6 @@ use Rattle.propagator.proofs.ConsideredTask.{tried-on}
 use Rattle.propagator.proofs.disjunctive_propagator.consider.Statement.{statement}
 use Rattle.propagator.proofs.disjunctive_propagator.consider.Tie as tie
 
--- what is asked
-abbrev asks : (c : tie.Start) → let a = c .args in
-    ((x : ℕ) × (s : Considerable (a .size) (a .lct) (a .nodes .now) (a .earliest .now) (a .posts .now) (a .atoms .now) (a .written) (a .est .now) (a .lst .now)
-    (a .durations .now) (a .reverse-mapping .now) (a .mapping .now)) × Responsible-for s (a .id .0) x)
-asks c = c .pre
-
 abbrev start : tie.After-raised-start → tie.Start
 start c = c .before .before .before
 
@@ -33,7 +27,7 @@ raised c = c .raised-start .ensures
 post-requires : tie.Need-post-requires
 post-requires c κs =
     let at = c .before .before .before .before in
-    let a = asks (start at) in (
+    let a = start at .pre in (
       shown (a .1),
       asked (a .1) (a .2) (at .raised-start .result) (raised at (start at .args .size .inner) (shown (a .1))) (omega arith),
       post-room (a .1) (a .2),
@@ -51,44 +45,35 @@ tried c x s r =
 
 sizes : (c : tie.Joined1) → let a = start (c .before) .args in (length (c .if1 .posts) ≡ length (a .posts .now)) × (length (c .if1 .atoms) ≡ length (a .atoms .now))
 sizes c =
-    let a = asks (start (c .before)) in
+    let a = start (c .before) .pre in
     tried-sizes (a .1) (a .2) (c .before .raised-start .result) (raised (c .before) (start (c .before) .args .size .inner) (shown (a .1))) (tried c (a .0) (a .1) (a .2))
 
 mul-if2 : tie.Need-mul-if2
-mul-if2 c = let a = asks (start (c .before)) in omega (arith, known (a .1) (a .2))
+mul-if2 c = let a = start (c .before) .pre in omega (arith, known (a .1) (a .2))
 
 -- the slices keep their lengths
 same-length : tie.Need-same-length
 same-length c = sizes (c .before .before) .0
-
-same-length-2 : tie.Need-same-length-2
-same-length-2 c = sizes (c .before .before) .1
 
 returns : tie.Need-returns
 returns c = λ x s r. let at = c .before .before in
     tried-emptied s r (at .before .raised-start .result) (raised (at .before) (start (at .before) .args .size .inner) (shown s)) (tried at x s r) (omega arith)
 
 leaf-of-requires : tie.Need-leaf-of-requires
-leaf-of-requires c κs = let a = asks (start (c .before .before .before .before)) in known (a .1) (a .2)
+leaf-of-requires c κs = let a = start (c .before .before .before .before) .pre in known (a .1) (a .2)
 
 remove-from-lambda-requires : tie.Need-remove-from-lambda-requires
-remove-from-lambda-requires c κs = let a = asks (start (c .before .before .before .before .before .before)) in may-clear (a .1) (a .2) (c .before .leaf-of .ensures)
+remove-from-lambda-requires c κs = let a = start (c .before .before .before .before .before .before) .pre in may-clear (a .1) (a .2) (c .before .leaf-of .ensures)
 
 counted-requires : tie.Need-counted-requires
 counted-requires c κs =
     let at = c .before .before .before .before .before .before in
-    let a = asks (start (at .before)) in
+    let a = start (at .before) .pre in
     omega (
       arith,
       tried-changes (a .1) (a .2) (at .before .raised-start .result) (raised (at .before) (start (at .before) .args .size .inner) (shown (a .1))) (tried at (a .0) (a .1) (a .2)),
       few-changes (a .1),
     )
-
-same-length-4 : tie.Need-same-length-4
-same-length-4 c = sizes (c .before .before .before .before .before .before .before) .0
-
-same-length-5 : tie.Need-same-length-5
-same-length-5 c = sizes (c .before .before .before .before .before .before .before) .1
 
 returns-2 : tie.Need-returns-2
 returns-2 c = λ x s r.
@@ -104,7 +89,9 @@ pub consider-spec : {M : Type 1} → statement M
 consider-spec =
     tie.close
     (tie.spec
-    (λ c. search (needs, known)) (λ c. search (needs, known)) (λ c κs. search needs) post-requires mul-if2 (λ c. search (needs, known))
-    same-length same-length-2 returns (λ c κs. search needs) (λ c. let a = asks (start (c .before .before .before .before)) in omega (arith, known (a .1) (a .2)))
-    (λ c. search (needs, start-inside)) leaf-of-requires
-    remove-from-lambda-requires counted-requires (λ c. search needs) same-length-4 same-length-5 returns-2)
+    (λ c. search (needs, known)) (λ c. search (needs, known)) (λ c κs. search needs) post-requires mul-if2
+    (λ c. search (needs, known)) same-length (λ c. sizes (c .before .before) .1) returns (λ c κs. search needs)
+    (λ c. let a = start (c .before .before .before .before) .pre in omega (arith, known (a .1) (a .2)))
+    (λ c. search (needs, start-inside)) leaf-of-requires remove-from-lambda-requires counted-requires
+    (λ c. search needs) (λ c. sizes (c .before .before .before .before .before .before .before) .0)
+    (λ c. sizes (c .before .before .before .before .before .before .before) .1) returns-2)

@@ -87,9 +87,6 @@ returns-2 c = λ s.
     let (x, o) = one-left s r (next .next .given .1) (next .before .before .candidate .ensures) in
     one-emptied s r (positive turn) (c .before .turn2 .given .1) (considered .consider .ensures x (still-considerable s r) o)
 
-returns-3 : tie.Need-returns-3 Inv-loop μ-loop
-returns-3 c = λ s. ended s (c .before .loop .inv .reached s) (omega arith)
-
 pub consider-all-spec : {M : Type 1} → statement M
 consider-all-spec =
     tie.close
@@ -97,4 +94,5 @@ consider-all-spec =
     Inv-loop μ-loop loop-holds (λ c. search needs) candidate-requires (λ c. search needs) (λ c. search needs)
     (λ c. search needs) (λ c. search needs) (λ c. search needs) returns consider-requires (λ c. search needs)
     (λ c. search needs) loop-again (λ c. search needs) (λ c. search needs) (λ c. search needs) (λ c. search needs)
-    returns-2 (λ c. search needs) (λ c. search needs) (λ c. search needs) returns-3)
+    returns-2 (λ c. search needs) (λ c. search needs) (λ c. search needs)
+    (λ c. λ s. ended s (c .before .loop .inv .reached s) (omega arith)))

@@ -7,8 +7,9 @@ use Rattle.trees.specs.Ects.{raisedTo}
 use Rattle.propagator.proofs.disjunctive_propagator.ect_bar_moment.Statement.{statement}
 use Rattle.propagator.proofs.disjunctive_propagator.ect_bar_moment.Tie as tie
 
-returns : tie.Need-returns
-returns c = λ inner h. c .raised .ensures ∙ ap (λ (o : Option ℕ). raisedTo 0 o) (c .before .ect-bar .ensures inner h)
-
 pub ect-bar-moment-spec : {M : Type 1} → statement M
-ect-bar-moment-spec = tie.close (tie.spec (λ c κs. search needs) (λ c κs. search needs) returns)
+ect-bar-moment-spec =
+    tie.close
+    (tie.spec
+    (λ c κs. search needs) (λ c κs. search needs)
+    (λ c. λ inner h. c .raised .ensures ∙ ap (λ (o : Option ℕ). raisedTo 0 o) (c .before .ect-bar .ensures inner h)))

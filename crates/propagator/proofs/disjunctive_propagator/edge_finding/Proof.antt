@@ -40,13 +40,7 @@ abbrev μ-loop : tie.MeasureT-loop
 abbrev start : tie.In-loop Inv-loop μ-loop → tie.Start Inv-loop μ-loop
 start c = c .before .before .before
 
--- inside the loop: the level's task and its lct, and that a level follows
-abbrev task : tie.In-loop Inv-loop μ-loop → ℕ
-task c = getD (start c .args .sorted-tasks .now) (c .before .loop .index) 0
-
-abbrev end : tie.In-loop Inv-loop μ-loop → ℕ
-end c = getD (start c .args .lct .now) (task c) 0
-
+-- inside the loop, a level follows
 more : (c : tie.In-loop Inv-loop μ-loop) → c .before .loop .index + 1 < start c .args .size .leaves
 more c = omega (arith, c .before .loop .inv .count)
 
@@ -91,7 +85,7 @@ abbrev Test : tie.In-loop Inv-loop μ-loop → Bool → Type 0
 Test c u = let a = start c .args in let l = c .before .loop in
     (s : EdgeFindable (a .size) (a .ect) (a .past) (a .nodes .now) (a .earliest .now) (a .posts .now) (a .atoms .now) (a .est .now) (a .lst .now) (a .lct .now) (a .durations .now)
     (a .reverse-mapping .now) (a .sorted-tasks .now) (a .mapping .now))
-    → exceeds (ect s (l .inv .level s) (more c)) (end c) ≡ u
+    → exceeds (ect s (l .inv .level s) (more c)) (getD (a .lct .now) (getD (a .sorted-tasks .now) (l .index) 0) 0) ≡ u
 
 passes : (c : tie.Then1 Inv-loop μ-loop) → Test (entered (c .before)) true
 passes c s = let level = entered (c .before) in
@@ -132,9 +126,6 @@ leave-theta-requires c κs =
     let v = level .before .loop .inv in
     moves (v .findable) (v .level (v .findable)) (more level)
 
-add-counted : tie.Need-add-counted Inv-loop μ-loop
-add-counted c = omega (arith, c .before .before .known-turns .ensures .1)
-
 counted-requires : tie.Need-counted-requires Inv-loop μ-loop
 counted-requires c κs =
     let level = level-of c in
@@ -153,9 +144,6 @@ consider-all-requires c κs =
     let v = level-of move .before .loop .inv in
     goes-on (v .findable) (v .level (v .findable)) (more (level-of move)) (quiet move (v .findable)) (move .before .before .known-turns .ensures .0) (move .leave-theta .ensures)
     (need .before .counted .ensures) (joins need) (ltb-true _ _ (need .if2 .taken))
-
-loop-less : tie.Need-loop-less Inv-loop μ-loop
-loop-less c = omega (arith, more (level-of (needing (considering (c .before .before)) .before .before)))
 
 loop-again : tie.Need-loop-again Inv-loop μ-loop
 loop-again c =
@@ -177,9 +165,6 @@ loop-again c =
       posts-length = search needs;
       atoms-length = search needs;
     }
-
-loop-less-2 : tie.Need-loop-less-2 Inv-loop μ-loop
-loop-less-2 c = omega (arith, more (level-of (c .before .before)))
 
 -- a level without a candidate
 loop-again-2 : tie.Need-loop-again-2 Inv-loop μ-loop
@@ -205,15 +190,6 @@ emptying c = c .before .before .before .before .before .before
 abbrev head : tie.After-known-told2 Inv-loop μ-loop → tie.At-loop Inv-loop μ-loop
 head c = level-of (needing (emptying c) .before .before) .before
 
-same-length-4 : tie.Need-same-length-4 Inv-loop μ-loop
-same-length-4 c = search (needs, head (c .before) .loop .inv .starts-length)
-
-same-length-5 : tie.Need-same-length-5 Inv-loop μ-loop
-same-length-5 c = search (needs, head (c .before) .loop .inv .posts-length)
-
-same-length-6 : tie.Need-same-length-6 Inv-loop μ-loop
-same-length-6 c = search (needs, head (c .before) .loop .inv .atoms-length)
-
 returns-2 : tie.Need-returns-2 Inv-loop μ-loop
 returns-2 c = λ s.
     let considered = emptying (c .before) in
@@ -232,10 +208,15 @@ pub edge-finding-spec : {M : Type 1} → statement M
 edge-finding-spec =
     tie.close
     (tie.spec
-    Inv-loop μ-loop (λ c κs. search needs) loop-holds (λ c. search needs) (λ c. search needs)
-    (λ c. search needs) mul-lct-j (λ c. search (needs, sorted-task-small)) (λ c κs. search needs) overloaded-requires
-    (λ c. search needs) (λ c. search needs) (λ c. search needs) returns (λ c. search needs) (λ c. search needs)
-    (λ c. search needs) mul-lct-next-2 (λ c. search (needs, sorted-task-small)) (λ c κs. search needs) known-turns-requires leave-theta-requires add-counted
-    counted-requires sub-consider-all consider-all-requires (λ c. search needs) (λ c. search needs) (λ c κs. search needs) same-length-4 same-length-5
-    same-length-6 returns-2 (λ c κs. search needs) loop-less loop-again loop-less-2 loop-again-2 (λ c κs. search needs)
-    (λ c. search needs) (λ c. search needs) (λ c. search needs) returns-3)
+    Inv-loop μ-loop (λ c κs. search needs) loop-holds (λ c. search needs) (λ c. search needs) (λ c. search needs)
+    mul-lct-j (λ c. search (needs, sorted-task-small)) (λ c κs. search needs) overloaded-requires (λ c. search needs)
+    (λ c. search needs) (λ c. search needs) returns (λ c. search needs) (λ c. search needs) (λ c. search needs)
+    mul-lct-next-2 (λ c. search (needs, sorted-task-small)) (λ c κs. search needs) known-turns-requires
+    leave-theta-requires (λ c. omega (arith, c .before .before .known-turns .ensures .1)) counted-requires
+    sub-consider-all consider-all-requires (λ c. search needs) (λ c. search needs) (λ c κs. search needs)
+    (λ c. search (needs, head (c .before) .loop .inv .starts-length))
+    (λ c. search (needs, head (c .before) .loop .inv .posts-length))
+    (λ c. search (needs, head (c .before) .loop .inv .atoms-length)) returns-2 (λ c κs. search needs)
+    (λ c. omega (arith, more (level-of (needing (considering (c .before .before)) .before .before)))) loop-again
+    (λ c. omega (arith, more (level-of (c .before .before)))) loop-again-2 (λ c κs. search needs) (λ c. search needs)
+    (λ c. search needs) (λ c. search needs) returns-3)

@@ -1,5 +1,5 @@
 -- The invariant: the first x leaves are white and the rest empty, and `ect` is the ect of their tasks.
-use mathlib.Core.Path.{_≡_, refl}
+use mathlib.Core.Path.{_≡_, refl, sym}
 use mathlib.Core.List.{List}
 use Prim.Native.Nat.{ℕ, _-_, _≤_, _<_}
 use native.Mathlib.Omega.{arith}
@@ -7,8 +7,9 @@ use lib.ListN.{getD}
 use borrow.Author.Needs.{needs}
 use Rattle.integers.specs.Limits.{TASKS}
 use Rattle.trees.specs.Trees.{HasLeaves}
+use Rattle.trees.proofs.TasksInTurn.{first-none}
 use Rattle.propagator.specs.FilledTheta.{Fillable}
-use Rattle.propagator.proofs.FilledTheta.{upTo, none-white, none-later, task-known, placed, shown, one-white, Ect, one-later, ect-small, all-later, all-white}
+use Rattle.propagator.proofs.FilledTheta.{upTo, none-white, task-known, placed, shown, one-white, Ect, one-later, ect-small, all-later, all-white}
 use Rattle.propagator.proofs.disjunctive_propagator.fill.Statement.{statement}
 use Rattle.propagator.proofs.disjunctive_propagator.fill.Tie as tie
 
@@ -34,12 +35,6 @@ task c = getD (c .before .before .before .args .reverse-mapping .now) (c .before
 
 known : (c : tie.After-task-of Inv-loop μ-loop) → c .task-of .result .0 < TASKS
 known c = omega (arith, c .task-of .ensures, task-known (c .before .before .loop .inv .fillable) (c .before .before .loop .x) (inside (c .before)))
-
-loop-holds : tie.Need-loop-holds Inv-loop μ-loop
-loop-holds c = record { fillable = c .pre; leaves = λ f. none-white f; later = λ f. none-later f; small = omega arith }
-
-task-of-requires : tie.Need-task-of-requires Inv-loop μ-loop
-task-of-requires c κs = omega (arith, inside c, c .before .loop .inv .fillable .few)
 
 lay-in-theta-requires : tie.Need-lay-in-theta-requires Inv-loop μ-loop
 lay-in-theta-requires c κs =
@@ -78,5 +73,8 @@ pub fill-spec : {M : Type 1} → statement M
 fill-spec =
     tie.close
     (tie.spec
-    Inv-loop μ-loop loop-holds task-of-requires (λ c. omega (arith, known c)) (λ c. known c) (λ c. omega (arith, known (c .before))) (λ c. known (c .before))
-    lay-in-theta-requires (λ c κs. search needs) add-ect (λ c. search needs) (λ c. search needs) loop-again returns)
+    Inv-loop μ-loop
+    (λ c. record { fillable = c .pre; leaves = λ f. none-white f; later = λ f. sym (first-none (f .J) (f .estOrder)); small = omega arith })
+    (λ c κs. omega (arith, inside c, c .before .loop .inv .fillable .few)) (λ c. omega (arith, known c)) (λ c. known c)
+    (λ c. omega (arith, known (c .before))) (λ c. known (c .before)) lay-in-theta-requires (λ c κs. search needs)
+    add-ect (λ c. search needs) (λ c. search needs) loop-again returns)

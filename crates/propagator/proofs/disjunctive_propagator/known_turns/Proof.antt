@@ -6,12 +6,10 @@ use borrow.Author.Needs.{needs}
 use Rattle.propagator.proofs.disjunctive_propagator.known_turns.Statement.{statement}
 use Rattle.propagator.proofs.disjunctive_propagator.known_turns.Tie as tie
 
-returns : tie.Need-returns
-returns c = (inr (refl, c .before .before .before .if1 .taken, omega arith), omega arith)
-
 pub known-turns-spec : {M : Type 1} → statement M
 known-turns-spec =
     tie.close
     (tie.spec
-    (λ c. search needs) (λ c. search needs) (λ c. search needs) (λ c. search needs) (λ c. search needs) returns
-    (λ c. (inl refl, omega arith)) (λ c. (inl refl, omega arith)))
+    (λ c. search needs) (λ c. search needs) (λ c. search needs) (λ c. search needs) (λ c. search needs)
+    (λ c. (inr (refl, c .before .before .before .if1 .taken, omega arith), omega arith)) (λ c. (inl refl, omega arith))
+    (λ c. (inl refl, omega arith)))

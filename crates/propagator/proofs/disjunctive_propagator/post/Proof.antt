@@ -1,33 +1,23 @@
 -- The tree answers the sum that the reason asks for, the explanation writes the reason, and the post's words say where it stands and how long it is.
-use mathlib.Core.Path.{refl, sym, subst}
-use Prim.Native.Nat.{ℕ, _+_}
-use lib.ListN.{length}
+use mathlib.Core.Path.{refl, ap}
+use Prim.Native.Nat.{ℕ}
 use borrow.Author.Needs.{needs}
 use Rattle.integers.specs.Moments.{zeroAt}
 use Rattle.runs.specs.Runs.{propagation}
 use Rattle.trees.specs.ArraySearches.{thetaIn}
 use Rattle.explanations.specs.WrittenAtoms.{starting}
-use Rattle.explanations.specs.Explanations.{PropagationExplainable}
-use Rattle.propagator.specs.Candidates.{Posted}
 use Rattle.propagator.proofs.PostWords.{reason-few, post-fits, post-done}
 use Rattle.propagator.proofs.disjunctive_propagator.post.Statement.{statement}
 use Rattle.propagator.proofs.disjunctive_propagator.post.Tie as tie
-
--- what is asked, with the sum that the tree answered
-given : (c : tie.After-sum-of-processing-times)
-    → let a = c .before .args in PropagationExplainable (length (a .atoms .now)) (a .written .atoms) (thetaIn (a .nodes .now) (a .size .inner) (a .reverse-mapping .now) (a .size .leaves))
-    (a .est .now) (a .durations .now)
-    (c .sum-of-processing-times .result) (a .lct) (a .i) (a .new-bound)
-given c = let a = c .before .args in
-    subst (λ (p : ℕ). PropagationExplainable (length (a .atoms .now)) (a .written .atoms) (thetaIn (a .nodes .now) (a .size .inner) (a .reverse-mapping .now) (a .size .leaves)) (a .est .now)
-    (a .durations .now) p (a .lct) (a .i) (a .new-bound))
-    (sym (c .sum-of-processing-times .ensures (a .size .inner) (c .before .pre .0))) (c .before .pre .1)
 
 abbrev sums : tie.After-create-propagation-explanation → tie.After-sum-of-processing-times
 sums c = c .before .before .before .before
 
 create-propagation-explanation-requires : tie.Need-create-propagation-explanation-requires
-create-propagation-explanation-requires c κs = let s = c .before .before .before in (given s, s .before .pre .3 .leaves, s .before .pre .3 .inner)
+create-propagation-explanation-requires c κs =
+    let s = c .before .before .before in
+    let pre = s .before .pre in
+    (rw (s .sum-of-processing-times .ensures (s .before .args .size .inner) (pre .0)) (pre .1), pre .3 .leaves, pre .3 .inner)
 
 write-post-requires : tie.Need-write-post-requires
 write-post-requires c κs =
@@ -44,11 +34,10 @@ returns c = λ h.
     let made = c .before .before .before .before .before in
     let s = sums made in
     let a = s .before .args in
-    subst (λ (p : ℕ). Posted (a .posts .now) (a .atoms .now) (c .before .before .write-post .last .0) (made .create-propagation-explanation .last .0) (a .written)
-    (record { posts = a .written .posts + 1; atoms = made .create-propagation-explanation .result; changes = a .written .changes }) (a .i) (a .new-bound)
-    (propagation zeroAt (starting (a .est .now) (a .durations .now)) (a .i) (a .new-bound) (a .lct) p (thetaIn (a .nodes .now) (a .size .inner) (a .reverse-mapping .now) (a .size .leaves))))
-    (s .sum-of-processing-times .ensures (a .size .inner) h)
-    (post-done (made .create-propagation-explanation .ensures) refl refl refl refl (c .before .before .write-post .ensures))
+    let θ = thetaIn (a .nodes .now) (a .size .inner) (a .reverse-mapping .now) (a .size .leaves) in
+    post-done (made .create-propagation-explanation .ensures)
+    (ap (λ (p : ℕ). propagation zeroAt (starting (a .est .now) (a .durations .now)) (a .i) (a .new-bound) (a .lct) p θ) (s .sum-of-processing-times .ensures (a .size .inner) h)) refl refl refl refl
+    (c .before .before .write-post .ensures)
 
 pub post-spec : {M : Type 1} → statement M
 post-spec =
