@@ -40,15 +40,19 @@ module _ (ds ps cs : List ℤ) where
     is-refused (suc n) e z = sym (after (suc n) (sym e))
 
     -- 7, 6, 21 and contradictions
-    module _ (ok : refusal (creationTests ds) ≡ 0) where
+    module _ {number : ℕ} (tested : number ≡ refusal (creationTests ds)) (zero : number ≡ 0) where
+      ok : refusal (creationTests ds) ≡ 0
+      ok = sym tested ∙ zero
+
       concludes : (x : Application) → applied .answer ≡ x → checkAs direction ds ps cs ≡ concluded (judgedAs direction ds) (record { answer = x; state = applied .state }) (consequentOf cs)
       concludes x e = after 0 ok ∙ ap (λ (y : Application). concluded (judgedAs direction ds) (record { answer = y; state = applied .state }) (consequentOf cs)) e
 
-      pub contradicted : (x : ℕ) → applied .answer ≡ application.Contradiction x → Contradiction x ≡ checkAs direction ds ps cs
-      contradicted x e = sym (concludes (application.Contradiction x) e)
+      module _ {w : Application} (is : w ≡ applied .answer) where
+        pub contradicted : (x : ℕ) → w ≡ application.Contradiction x → Contradiction x ≡ checkAs direction ds ps cs
+        contradicted x e = sym (concludes (application.Contradiction x) (sym is ∙ e))
 
-      pub refused-atoms : (n : ℕ) → applied .answer ≡ application.Refused n → Refused n ≡ checkAs direction ds ps cs
-      refused-atoms n e = sym (concludes (application.Refused n) e)
+        pub refused-atoms : (n : ℕ) → w ≡ application.Refused n → Refused n ≡ checkAs direction ds ps cs
+        refused-atoms n e = sym (concludes (application.Refused n) (sym is ∙ e))
 
       pub concluded-by : applied .answer ≡ application.Consistent → (r : Verdict) → r ≡ judgedAs direction ds (applied .state) (consequentOf cs) → r ≡ checkAs direction ds ps cs
       concluded-by e r j = j ∙ sym (concludes application.Consistent e)

@@ -18,6 +18,7 @@ use Rattle.scheduling.proofs.Processing.{processing-is}
 use Rattle.trees.specs.Ects.{exceeds}
 use Rattle.trees.specs.NodeBounds.{LATEST}
 use Rattle.chosen_sets.specs.TaskArrays.{HeldSet, Late}
+use Rattle.chosen_sets.proofs.RecordArrays.{choosing}
 use Rattle.checker.specs.declared.intervals.Interval.{Interval}
 use Rattle.checker.specs.Formulas.{_but_, any, lowest, highest, overloadsSpan, comesAfter}
 use Rattle.checker.specs.BoundArrays.{intervalOf}
@@ -88,16 +89,7 @@ cleared (x ∷ xs) (suc i) = cleared xs i
 
 pub theta-held : {J : Tasks natural} {Ω : TaskSet} {n : ℕ} {chosen : List Bool} {est durations : List ℕ} → (i : ℕ)
     → HeldSet J Ω n chosen est durations → HeldSet J (Ω but i) n (set chosen i false) est durations
-theta-held {J} {Ω} {n} {chosen} {est} {durations} i h = record {
-  proper = h .proper;
-  count = h .count;
-  few = h .few;
-  member = λ k r. elim (ℕ-discrete k i) [
-    | yes e ↦ rw (e, eq-eqb i i refl) (cleared chosen i)
-    | no e ↦ rw (ne-eqb k i e) (getD-set-other chosen i k false false e ∙ h .member k r)
-  ];
-  start = h .start;
-  lasts = h .lasts;
-  early = h .early;
-  sum = h .sum;
-}
+theta-held {chosen = chosen} i h = choosing h (λ k r. elim (ℕ-discrete k i) [
+  | yes e ↦ rw (e, eq-eqb i i refl) (cleared chosen i)
+  | no e ↦ rw (ne-eqb k i e) (getD-set-other chosen i k false false e ∙ h .member k r)
+])

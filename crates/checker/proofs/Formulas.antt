@@ -6,9 +6,8 @@ use mathlib.Core.Logic.{_⊎_, inl, inr}
 use mathlib.Core.Option.{Option, some, none}
 use Prim.Native.Nat.{ℕ, _+_, _≤_, _<_, min}
 use native.Mathlib.Omega.{arith}
-use native.Mathlib.Nat.{le-antisymm}
 use native.Mathlib.Decide.{ℕ-discrete}
-use lib.Dec.{eqb, ltb}
+use lib.Dec.{ltb}
 use lib.IntN.{ℤ, negsuc}
 use lib.Signed.{_≤ℤ_, ≤ℤ-refl}
 use borrow.Author.Tests.{ltb-true, lt-ltb, ne-eqb, eq-eqb}
@@ -16,7 +15,7 @@ use Rattle.integers.specs.Moments.{moment, Above, zeroAt}
 use Rattle.integers.proofs.Bools.{bool, clash, and-true, and-yes}
 use Rattle.integers.proofs.Ints.{up, dn, ints}
 use Rattle.integers.proofs.MomentSums.{above-show}
-use Rattle.scheduling.specs.Scheduling.{whole, natural, Tasks, Proper, TaskSet, _with_, Largest, Least, In, NonEmpty, Est, Lct, processing, Overloads, Atom, Admits, given, Bounded, RuleFormula}
+use Rattle.scheduling.specs.Scheduling.{whole, natural, Tasks, Proper, TaskSet, _with_, Largest, Least, In, NonEmpty, processing, Overloads, Atom, Admits, given, Bounded, RuleFormula}
 use Rattle.scheduling.specs.Scheduling.{PassesWith, PassesAlone}
 use Rattle.scheduling.specs.Ects.{ectOf}
 use Rattle.scheduling.proofs.Ects.{ect-is}
@@ -24,6 +23,8 @@ use Rattle.scheduling.proofs.Agreement.{Agree, overloads→, formula→, set-ov
 use Rattle.scheduling.proofs.Clocks.{sound, overload→, overload←, checks→, checks←}
 use Rattle.trees.specs.Ects.{exceeds}
 use Rattle.trees.proofs.Ects.{exceeds-yes, some-exceeds}
+use Rattle.scheduling.proofs.Sets.{with-new, with-old}
+use Rattle.chosen_sets.proofs.RunningValues.{one-least, one-largest}
 use Rattle.checker.specs.Formulas.{bounded, theta, ranges, tasks, any, lowest, highest, overloaded, implied}
 use Rattle.checker.proofs.GatheredIntervals.{any-yes, any-some, lowest-is, highest-is}
 
@@ -50,12 +51,6 @@ least-same P u v a b = let p : u ≤ℤ v = a .bounds v (b .holds) in let q : v 
 
 largest-same : (P : ℤ → Type 0) (u v : ℤ) → Largest whole P u → Largest whole P v → u ≡ v
 largest-same P u v a b = let p : v ≤ℤ u = a .bounds v (b .holds) in let q : u ≤ℤ v = b .bounds u (a .holds) in omega ints
-
-est-same : (N : Tasks natural) (Ω : TaskSet) (u v : ℕ) → Est N Ω u → Est N Ω v → u ≡ v
-est-same N Ω u v a b = le-antisymm (a .bounds v (b .holds)) (b .bounds u (a .holds))
-
-lct-same : (N : Tasks natural) (Ω : TaskSet) (u v : ℕ) → Lct N Ω u → Lct N Ω v → u ≡ v
-lct-same N Ω u v a b = le-antisymm (b .bounds u (a .holds)) (a .bounds v (b .holds))
 
 module _ (J : Tasks whole) (lasts : (k : ℕ) → k < J .count → 1 ≤ J .duration k) (atoms : List Atom) (lower upper : ℕ → Option ℤ) (r : Reads (J .count) atoms lower upper) where
   abbrev n : ℕ
@@ -181,8 +176,8 @@ module _ (J : Tasks whole) (lasts : (k : ℕ) → k < J .count → 1 ≤ J .dura
       let on-R : Overloads R (p .set) = overloads→ (p .ranges) R (p .set) (agrees (p .set) (p .ranges) (p .bounded)) (p .set) (λ k h. h .mem) (p .formula) in
       let v : Overloads N X = overload→ zeroAt R proper low-R X (set-overloads R (p .set) X (determined (p .set) (p .ranges) (p .bounded)) on-R) in
       let ne : NonEmpty N X = (v .est .holds .0, v .est .holds .1) in
-      let s : v .start ≡ low X = est-same N X (v .start) (low X) (v .est) (lowest-is N X fits-N ne) in
-      let e : v .end ≡ high X = lct-same N X (v .end) (high X) (v .lct) (highest-is N X ne) in
+      let s : v .start ≡ low X = one-least (v .est) (lowest-is N X fits-N ne) in
+      let e : v .end ≡ high X = one-largest (v .lct) (highest-is N X ne) in
       and-yes (some-in X) (ltb (high X) (low X + processing N X)) (any-yes N X ne) (lt-ltb (high X) (low X + processing N X) (omega (arith, v .over)))
 
   -- with a consequent on task i, which has two bounds --------------------------------------------------------------------------
@@ -240,18 +235,12 @@ module _ (J : Tasks whole) (lasts : (k : ℕ) → k < J .count → 1 ≤ J .dura
           let b : Bounded J atoms (p .set with i) (p .ranges) =
           subst (λ (j : ℕ). Bounded J atoms (p .set with j) (p .ranges)) on-i (subst (λ (l : List Atom). Bounded J l (p .set with (a .variable)) (p .ranges)) is-given (p .bounded)) in
           let g : RuleFormula (p .ranges) (p .set) i = subst (λ (j : ℕ). RuleFormula (p .ranges) (p .set) j) on-i (p .formula) in
-          let on-R : RuleFormula R (p .set) i = formula→ (p .ranges) R (p .set with i) (agrees (p .set with i) (p .ranges) b) (p .set) i (λ k h. with-more (p .set) k (h .mem))
-          (with-self (p .set)) g in
+          let on-R : RuleFormula R (p .set) i = formula→ (p .ranges) R (p .set with i) (agrees (p .set with i) (p .ranges) b) (p .set) i (λ k h. with-old (p .set) i k (h .mem))
+          (with-new (p .set) i) g in
           let f : RuleFormula N Ω i = checks→ zeroAt R proper low-R Ω i (set-formula R (p .set) Ω (is-theta (p .set) (g .outside .mem) (determined (p .set with i) (p .ranges) b)) i on-R) in
           let ne : NonEmpty N Ω = (f .est .holds .0, f .est .holds .1) in
-          let s : f .start ≡ low Ω = est-same N Ω (f .start) (low Ω) (f .est) (lowest-is N Ω fits-N ne) in
-          let e : f .end ≡ high Ω = lct-same N Ω (f .end) (high Ω) (f .lct) (highest-is N Ω ne) in
+          let s : f .start ≡ low Ω = one-least (f .est) (lowest-is N Ω fits-N ne) in
+          let e : f .end ≡ high Ω = one-largest (f .lct) (highest-is N Ω ne) in
           and-yes (some-in Ω) (ltb (high Ω) reach && exceeds (ectOf N Ω) (N .latest i)) (any-yes N Ω ne)
           (and-yes (ltb (high Ω) reach) (exceeds (ectOf N Ω) (N .latest i)) (lt-ltb (high Ω) reach (omega (arith, f .over-i, f .over-Ω)))
           (some-exceeds (ectOf N Ω) (f .joint) (N .latest i) (ect-is N moments-proper Ω (f .joint) .1 (f .ect)) (f .passes)))
-        where
-          with-more : (S : TaskSet) (k : ℕ) → S k ≡ true → (S with i) k ≡ true
-          with-more S k y = elim (bool (eqb k i)) [ inl z ↦ rw z | inr z ↦ rw z y ]
-
-          with-self : (S : TaskSet) → (S with i) i ≡ true
-          with-self S = rw (eq-eqb i i refl)

@@ -108,10 +108,6 @@ module _ (ds ps cs : List ℤ) (ok : refusal (creationTests ds) ≡ 0) (consiste
   at : {A : Type 0} (f : ℕ → A) (d : A) (k : ℕ) → k < n → getD (filled f n (replicate TASKS d)) k d ≡ f k
   at f d k q = filled-at f n (replicate TASKS d) d k q (omega (arith, few, length-replicate TASKS d))
 
-  -- an array that is filled a second time has the second values
-  at-again : (f g : ℕ → ℕ) (k : ℕ) → k < n → getD (filled f n (filled g n noTasks)) k 0 ≡ f k
-  at-again f g k q = filled-at f n (filled g n noTasks) 0 k q (omega (arith, few, filled-length g n noTasks))
-
   abbrev l : ℕ → Option ℤ
   l k = lowerIn s k
 
@@ -164,17 +160,19 @@ module _ (ds ps cs : List ℤ) (ok : refusal (creationTests ds) ≡ 0) (consiste
       (λ k q. (at (λ k. boundsAt s k .lst) 0 k q ∙ sides (l k) (u k) .2, side-most (l k) (u k) (u k) (λ z e. near-latest z (near-u k q z e))))
 
   -- in mirrored time each moment is that of the other bound
+  mirrored-at : (old new : ℕ → ℕ) (k : ℕ) → k < n
+      → getD (filled (λ k. mirroredMoment (getD (B .bounded) k false) (getD (filled new n noTasks) k 0) (getD lengths k 0)) n (filled old n noTasks)) k 0
+      ≡ mirroredMoment (boundsAt s k .known) (new k) (durationAt ds k)
+  mirrored-at old new k q = filled-at _ n (filled old n noTasks) 0 k q (omega (arith, few, filled-length old n noTasks))
+      ∙ moment-alike (at (λ k. boundsAt s k .known) false k q) (at new 0 k q) (lasts k q)
+
   pub mirrored-judgeable : Judgeable ds (lowerAs Mirrored ds s) (upperAs Mirrored ds s) n (mirroredBounds B lengths n) lengths
   mirrored-judgeable = in-time Mirrored (mirroredBounds B lengths n) (λ k q. at (λ k. boundsAt s k .known) false k q ∙ mirrored-known (durationAt ds k) (l k) (u k))
       (λ k q. (
-        at-again (λ k. mirroredMoment (getD (B .bounded) k false) (getD (B .lst) k 0) (getD lengths k 0)) (λ k. boundsAt s k .est) k q
-            ∙ moment-alike (at (λ k. boundsAt s k .known) false k q) (at (λ k. boundsAt s k .lst) 0 k q) (lasts k q)
-            ∙ mirrored-sides (durationAt ds k) (durations-most ds ok k q) (l k) (u k) (near-l k q) (near-u k q) .0,
+        mirrored-at (λ k. boundsAt s k .est) (λ k. boundsAt s k .lst) k q ∙ mirrored-sides (durationAt ds k) (durations-most ds ok k q) (l k) (u k) (near-l k q) (near-u k q) .0,
         mirrored-most (durationAt ds k) (durations-last ds ok k q) (durations-most ds ok k q) (l k) (u k) (u k) (near-u k q),
       ))
       (λ k q. (
-        at-again (λ k. mirroredMoment (getD (B .bounded) k false) (getD (B .est) k 0) (getD lengths k 0)) (λ k. boundsAt s k .lst) k q
-            ∙ moment-alike (at (λ k. boundsAt s k .known) false k q) (at (λ k. boundsAt s k .est) 0 k q) (lasts k q)
-            ∙ mirrored-sides (durationAt ds k) (durations-most ds ok k q) (l k) (u k) (near-l k q) (near-u k q) .1,
+        mirrored-at (λ k. boundsAt s k .lst) (λ k. boundsAt s k .est) k q ∙ mirrored-sides (durationAt ds k) (durations-most ds ok k q) (l k) (u k) (near-l k q) (near-u k q) .1,
         mirrored-most (durationAt ds k) (durations-last ds ok k q) (durations-most ds ok k q) (l k) (u k) (l k) (near-l k q),
       ))

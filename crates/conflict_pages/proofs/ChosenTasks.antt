@@ -1,20 +1,32 @@
 -- The tasks that have a flag, by number: one more of them, and which they are.
-use mathlib.Core.Path.{_≡_, refl, sym, ap, subst, _∙_}
-use mathlib.Core.Bool.{Bool, true, false}
-use mathlib.Core.Logic.{_⊎_, inl, inr}
+use mathlib.Core.Path.{_≡_, refl, sym, ap, _∙_}
+use mathlib.Core.Bool.{Bool, true, false, _&&_, _||_}
+use mathlib.Core.Logic.{inl, inr}
 use mathlib.Core.List.{List, [], _∷_, _++_, flatMap}
-use Prim.Native.Nat.{ℕ, zero, suc, _+_, _≤_, _<_}
+use Prim.Native.Nat.{ℕ, zero, suc, _+_, _<_}
 use native.Mathlib.Numerals.{add-one}
 use native.Mathlib.Nat.{add-zero, zero-add}
 use native.Mathlib.Omega.{arith}
+use lib.Dec.{eqb, ltb}
 use lib.ListN.{length, getD}
-use Rattle.integers.specs.Orders.{picked, numbers, has, index}
-use Rattle.integers.proofs.Bools.{bool, clash}
-use Rattle.integers.proofs.Permutations.{has-nil, has-here, has-later, has-cases, has-at, index-at, numbers-below, numbers-permute}
+use borrow.Author.Tests.{eqb-true, ltb-true, lt-ltb}
+use Rattle.integers.specs.Orders.{picked, numbers, has, index, Sorted}
+use Rattle.integers.proofs.Bools.{bool, and-true, and-yes, and-left, and-right}
+use Rattle.integers.proofs.Permutations.{has-cons, has-nil, has-at, index-at, numbers-below, numbers-permute}
+use Rattle.integers.proofs.StableSort.{sorted-at}
 use Rattle.text.specs.DecimalText.{Puts}
 use Rattle.text.proofs.PutBytes.{puts-append}
 use Rattle.pages.proofs.PageLines.{flat-append, flat-one}
 use Rattle.conflict_pages.specs.Lines.{lineIf}
+
+-- a test goes into a sum of tests, or takes the first of them out
+spread : (a b c : Bool) → (a ≡ true → c ≡ true) → a || (b && c) ≡ (a || b) && c
+spread true b c h = sym (h refl)
+spread false b c h = refl
+
+drops : (a b c : Bool) → (a ≡ true → c ≡ false) → b && c ≡ (a || b) && c
+drops true b c h = and-right b c (h refl) ∙ sym (h refl)
+drops false b c h = refl
 
 module _ (q : ℕ → Bool) where
   pick-yes : (x : ℕ) (xs : List ℕ) → q x ≡ true → picked q (x ∷ xs) ≡ x ∷ picked q xs
@@ -57,50 +69,29 @@ module _ (q : ℕ → Bool) where
     puts-next k p s = rw (more k, flat-append f (picked q (numbers 0 k)) (picked q (k ∷ [])), one k) (puts-append p s)
 
   -- ---- which they are
-  pick-has : (l : List ℕ) (k : ℕ) → has (picked q l) k ≡ true → (has l k ≡ true) × (q k ≡ true)
+  pick-has : (l : List ℕ) (k : ℕ) → has (picked q l) k ≡ has l k && q k
   unfolding picked
-  pick-has [] k h = (h, clash h (has-nil k))
-  pick-has (x ∷ xs) k h = by (pick-has xs k) (bool (q x))
-    where
-      by : (has (picked q xs) k ≡ true → (has xs k ≡ true) × (q k ≡ true)) → (q x ≡ true) ⊎ (q x ≡ false) → (has (x ∷ xs) k ≡ true) × (q k ≡ true)
-      by ih (inl y) = elim (has-cases x k (picked q xs) (rw (pick-yes x xs y) at h)) [
-        | inl z ↦ (subst (λ (j : ℕ). has (x ∷ xs) j ≡ true) z (has-here x xs), subst (λ (j : ℕ). q j ≡ true) z y)
-        | inr z ↦ (has-later x k xs (ih z .0), ih z .1)
-      ]
-      by ih (inr y) = let r = ih (rw (pick-no x xs y) at h) in (has-later x k xs (r .0), r .1)
+  pick-has [] k = has-nil k ∙ sym (and-left (has [] k) (q k) (has-nil k))
+  pick-has (x ∷ xs) k = elim (bool (q x)) [
+    | inl y ↦ rw (pick-yes x xs y, has-cons x k (picked q xs), has-cons x k xs, pick-has xs k) (spread (eqb x k) (has xs k) (q k) (λ z. ap q (sym (eqb-true x k z)) ∙ y))
+    | inr y ↦ rw (pick-no x xs y, has-cons x k xs, pick-has xs k) (drops (eqb x k) (has xs k) (q k) (λ z. ap q (sym (eqb-true x k z)) ∙ y))
+  ]
 
-  pick-keeps : (l : List ℕ) (k : ℕ) → has l k ≡ true → q k ≡ true → has (picked q l) k ≡ true
-  unfolding picked
-  pick-keeps [] k h y = h
-  pick-keeps (x ∷ xs) k h y = by (λ z. pick-keeps xs k z y) (has-cases x k xs h) (bool (q x))
-    where
-      by : (has xs k ≡ true → has (picked q xs) k ≡ true) → (x ≡ k) ⊎ (has xs k ≡ true) → (q x ≡ true) ⊎ (q x ≡ false) → has (picked q (x ∷ xs)) k ≡ true
-      by ih (inl z) w = subst (λ (j : ℕ). has (picked q (x ∷ xs)) j ≡ true) z (rw (pick-yes x xs (rw z y)) (has-here x (picked q xs)))
-      by ih (inr z) (inl w) = rw (pick-yes x xs w) (has-later x k (picked q xs) (ih z))
-      by ih (inr z) (inr w) = rw (pick-no x xs w) (ih z)
+  pick-from : (l : List ℕ) (k : ℕ) → has (picked q l) k ≡ true → (has l k ≡ true) × (q k ≡ true)
+  pick-from l k h = and-true (has l k) (q k) (sym (pick-has l k) ∙ h)
 
-  -- those from a on, d numbers in all, are at least a, and each is greater than the one before it
-  picked-from : (a d t : ℕ) → t < length (picked q (numbers a d)) → a ≤ getD (picked q (numbers a d)) t 0
-  picked-from a d t h = numbers-below a d _ (pick-has (numbers a d) _ (has-at (picked q (numbers a d)) t h) .0) .0
-
-  rising : (a d s t : ℕ) → s < t → t < length (picked q (numbers a d)) → getD (picked q (numbers a d)) s 0 < getD (picked q (numbers a d)) t 0
+  -- each is greater than the one before it
+  rising : (a d : ℕ) → Sorted ltb (picked q (numbers a d))
   unfolding picked numbers
-  rising a zero s t h r = absurd (omega arith)
-  rising a (suc d) s t h r = by (rising (suc a) d) s t h r (bool (q a))
-    where
-      by : ((s t : ℕ) → s < t → t < length (picked q (numbers (suc a) d)) → getD (picked q (numbers (suc a) d)) s 0 < getD (picked q (numbers (suc a) d)) t 0) → (s t : ℕ) → s < t
-          → t < length (picked q (a ∷ numbers (suc a) d))
-          → (q a ≡ true) ⊎ (q a ≡ false)
-          → getD (picked q (a ∷ numbers (suc a) d)) s 0 < getD (picked q (a ∷ numbers (suc a) d)) t 0
-      by ih s t h r (inr y) = rw (pick-no a (numbers (suc a) d) y) (ih s t h (rw (pick-no a (numbers (suc a) d) y) at r))
-      by ih zero zero h r (inl y) = absurd (omega arith)
-      by ih zero (suc t) h r (inl y) = rw (pick-yes a (numbers (suc a) d) y) (picked-from (suc a) d t (let z = rw (pick-yes a (numbers (suc a) d) y) at r in omega arith))
-      by ih (suc s) zero h r (inl y) = absurd (omega arith)
-      by ih (suc s) (suc t) h r (inl y) = rw (pick-yes a (numbers (suc a) d) y) (ih s t (omega arith) (let z = rw (pick-yes a (numbers (suc a) d) y) at r in omega arith))
+  rising a zero = tt
+  rising a (suc d) = elim (bool (q a)) [
+    | inl y ↦ rw (pick-yes a (numbers (suc a) d) y) (λ k h. lt-ltb a k (numbers-below (suc a) d k (pick-from (numbers (suc a) d) k h .0) .0), rising (suc a) d)
+    | inr y ↦ rw (pick-no a (numbers (suc a) d) y) (rising (suc a) d)
+  ]
 
   module _ (n : ℕ) where
     pub chosen : (k : ℕ) → has (picked q (numbers 0 n)) k ≡ true → (k < n) × (q k ≡ true)
-    chosen k h = let r = pick-has (numbers 0 n) k h in (numbers-permute n .below k (r .0), r .1)
+    chosen k h = let r = pick-from (numbers 0 n) k h in (numbers-permute n .below k (r .0), r .1)
 
     pub chosen-at : (t : ℕ) → t < length (picked q (numbers 0 n)) → (getD (picked q (numbers 0 n)) t 0 < n) × (q (getD (picked q (numbers 0 n)) t 0) ≡ true)
     chosen-at t h = chosen (getD (picked q (numbers 0 n)) t 0) (has-at (picked q (numbers 0 n)) t h)
@@ -108,8 +99,8 @@ module _ (q : ℕ → Bool) where
     pub place-of : (k : ℕ) → k < n → q k ≡ true → (t : ℕ) × (t < length (picked q (numbers 0 n))) × (getD (picked q (numbers 0 n)) t 0 ≡ k)
     place-of k h y =
         let l = picked q (numbers 0 n) in
-        let i = index-at l k (pick-keeps (numbers 0 n) k (numbers-permute n .every k h) y) in
+        let i = index-at l k (pick-has (numbers 0 n) k ∙ and-yes (has (numbers 0 n) k) (q k) (numbers-permute n .every k h) y) in
         (index l k, i .0, i .1)
 
     pub chosen-rise : (s t : ℕ) → s < t → t < length (picked q (numbers 0 n)) → getD (picked q (numbers 0 n)) s 0 < getD (picked q (numbers 0 n)) t 0
-    chosen-rise s t h r = rising 0 n s t h r
+    chosen-rise s t h r = ltb-true _ _ (sorted-at ltb (picked q (numbers 0 n)) (rising 0 n) s t h r)

@@ -36,13 +36,14 @@ module _ (r : DisjunctivePropagator) (es ls : List ℤ) (bars : Bool) (out : Lis
   abbrev number : ℕ
   number = conflictPageNumber r es ls bars (length out)
 
-  refused-by : {out′ : List ℕ} (m : ℕ) → number ≡ m → (m ≡ 0 → ⊥) → out′ ≡ out → ConflictPaged r es ls bars out (Refused m) out′
-  refused-by m e not k = record {
-    refused = λ _. record { answer = ap refusedBy (sym e); keeps = k };
-    right = λ z. absurd (not (sym e ∙ z));
-    nothing = λ z _. absurd (not (sym e ∙ z));
-    written = λ z _. absurd (not (sym e ∙ z));
-    lines = λ z. absurd (not (sym e ∙ z));
+  pub refused-by : {page : ConflictPage} {out′ : List ℕ} → (conflictPageNumber r es ls bars (length out) ≡ 0 → ⊥)
+      → conflictPageNumbers page ≡ refusedBy (conflictPageNumber r es ls bars (length out)) → out′ ≡ out → ConflictPaged r es ls bars out page out′
+  refused-by not e k = record {
+    refused = λ _. record { answer = e; keeps = k };
+    right = λ z. absurd (not z);
+    nothing = λ z _. absurd (not z);
+    written = λ z _. absurd (not z);
+    lines = λ z. absurd (not z);
   }
 
   module _ (c : Conflict) (x : ConflictFound r es ls bars c) where
@@ -50,7 +51,8 @@ module _ (r : DisjunctivePropagator) (es ls : List ℤ) (bars : Bool) (out : Lis
     pub call-refused : {out′ : List ℕ} (m : ℕ) → m ≡ numberOf (c .found) → (m ≡ 0 → ⊥) → out′ ≡ out → ConflictPaged r es ls bars out (Refused m) out′
     call-refused m e not k =
         let i = number-is r es ls bars c x in
-        refused-by m (call-first r es ls bars (length out) (λ z. not (e ∙ i ∙ z)) ∙ sym (e ∙ i)) not k
+        let z : number ≡ m = call-first r es ls bars (length out) (λ z. not (e ∙ i ∙ z)) ∙ sym (e ∙ i) in
+        refused-by (λ y. not (sym z ∙ y)) (ap refusedBy (sym z)) k
 
     -- or it is not
     module _ {m : ℕ} (e : m ≡ numberOf (c .found)) (z : m ≡ 0) where
@@ -61,7 +63,7 @@ module _ (r : DisjunctivePropagator) (es ls : List ℤ) (bars : Bool) (out : Lis
       few-tasks = accepted-input r es ls bars .0 accepted .0 .lawful .few
 
       pub room-refused : {out′ : List ℕ} → length out < LINE * (r .count + 5) → out′ ≡ out → ConflictPaged r es ls bars out (Refused 15) out′
-      room-refused h k = refused-by 15 (no-room r es ls bars (length out) accepted h) (λ y. absurd (omega arith)) k
+      room-refused h k = let z = no-room r es ls bars (length out) accepted h in refused-by (λ y. omega (arith, z, y)) (ap refusedBy (sym z)) k
 
       module _ (room : LINE * (r .count + 5) ≤ length out) where
         none : number ≡ 0
@@ -113,10 +115,4 @@ pub too-many : (r : DisjunctivePropagator) (es ls : List ℤ) (bars bars′ : Bo
 too-many r es ls bars bars′ out page out′ many p =
     let (same, not) = page-many r es ls bars bars′ (length out) many in
     let k = p .refused (λ z. not (sym same ∙ z)) in
-    record {
-      refused = λ _. record { answer = k .answer ∙ ap refusedBy same; keeps = k .keeps };
-      right = λ z. absurd (not z);
-      nothing = λ z _. absurd (not z);
-      written = λ z _. absurd (not z);
-      lines = λ z. absurd (not z);
-    }
+    refused-by r es ls bars′ out not (k .answer ∙ ap refusedBy same) (k .keeps)

@@ -5,7 +5,6 @@ use mathlib.Core.Logic.{_↔_, inl, inr}
 use mathlib.Core.List.{List, [], _∷_}
 use Prim.Native.Nat.{ℕ, _+_, _*_, _≤_, _<_}
 use native.Mathlib.Decide.{ℕ-discrete}
-use native.Mathlib.Omega.{arith}
 use lib.Dec.{leb}
 use lib.IntN.{ℤ}
 use lib.ListN.{length}
@@ -13,7 +12,6 @@ use borrow.Author.Tests.{leb-true, le-leb, lt-leb}
 use Rattle.integers.specs.Limits.{TASKS}
 use Rattle.integers.specs.Tests.{Test, test}
 use Rattle.integers.proofs.Tests.{accepts, refuses, refusal-after, refusal-before, more-refused}
-use Rattle.integers.proofs.Bools.{clash}
 use Rattle.scheduling.specs.Scheduling.{TaskSet, Overloads}
 use Rattle.scheduling.specs.Scheduling as scheduling
 use Rattle.records.specs.declared.record.DisjunctivePropagator.{DisjunctivePropagator}
@@ -24,26 +22,24 @@ use Rattle.records.proofs.InputGrounds.{InputGrounds, input-grounds}
 use Rattle.conflicts.specs.declared.answer.Found.{Found}
 use Rattle.conflicts.specs.declared.answer.Found.the-variants.{NothingFound, Overload, Late, Refused}
 use Rattle.conflicts.specs.declared.answer.Conflict.{Conflict}
+use Rattle.conflicts.proofs.FoundConflicts.{apart}
 use Rattle.conflicts.specs.Conflicts.{ConflictFound}
 use Rattle.conflict_pages.specs.Lines.{LINE}
 use Rattle.conflict_pages.specs.Pages.{conflictPageNumber}
-use Rattle.conflict_pages.specs.Sayable.{numberOf, shows}
+use Rattle.conflict_pages.specs.Sayable.{numberOf}
 
 -- ---- the call's number
 module _ (r : DisjunctivePropagator) (es ls : List ℤ) (bars : Bool) (c : Conflict) (x : ConflictFound r es ls bars c) where
   -- where no test fails, some answer is found: an overload, a late task, or nothing
   pub not-refused : inputNumber r es ls bars ≡ 0 → (m : ℕ) → c .found ≡ Refused m → ⊥
-  not-refused z m e = never e (ap (λ (d : Conflict). d .found) (x .nothing z .1 none))
+  not-refused z m e = apart e (ap (λ (d : Conflict). d .found) (x .nothing z .1 none)) refl
     where
-      never : {m : ℕ} → c .found ≡ Refused m → c .found ≡ NothingFound → ⊥
-      never f g = let y : _≡_ {A = ℕ} 0 1 = cc in omega arith
-
       overloads : (Ω : TaskSet) → Overloads (tasksIn r es ls) Ω → ⊥
-      overloads Ω o = clash (ap shows (x .overload z .1 (Ω, o))) (ap shows e)
+      overloads Ω o = apart e (x .overload z .1 (Ω, o)) refl
 
       none : scheduling.Conflict (tasksIn r es ls) → ⊥
       none (inl (Ω, o)) = overloads Ω o
-      none (inr (i, b, edge, passes)) = let (j, y, d, late) = x .late z .1 (overloads, (i, b, edge, passes)) in clash (ap shows late) (ap shows e)
+      none (inr (i, b, edge, passes)) = let (j, y, d, late) = x .late z .1 (overloads, (i, b, edge, passes)) in apart e late refl
 
   pub number-is : numberOf (c .found) ≡ inputNumber r es ls bars
   number-is = elim (ℕ-discrete (inputNumber r es ls bars) 0) [

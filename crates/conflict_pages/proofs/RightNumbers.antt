@@ -1,5 +1,5 @@
 -- The numbers of a conflict that is right are within the limits, so that the page can say them.
-use mathlib.Core.Path.{_≡_, refl, sym, subst}
+use mathlib.Core.Path.{_≡_, refl, subst}
 use mathlib.Core.Bool.{Bool, true}
 use mathlib.Core.List.{List}
 use Prim.Native.Nat.{ℕ, _≤_, _<_}
@@ -22,7 +22,8 @@ use Rattle.conflicts.specs.declared.answer.Found.{Found}
 use Rattle.conflicts.specs.declared.answer.Found.the-variants.{NothingFound, Overload, Late, Refused}
 use Rattle.conflicts.specs.declared.answer.Conflict.{Conflict}
 use Rattle.conflicts.specs.Answers.{flagged}
-use Rattle.conflicts.specs.Conflicts.{OverloadRight, LateRight, ConflictFound}
+use Rattle.conflicts.specs.declared.answer.Work.{Work}
+use Rattle.conflicts.specs.Conflicts.{WorkRight, OverloadRight, LateRight, ConflictFound}
 use Rattle.conflict_pages.specs.Sayable.{OverloadSayable, SumSayable, Sayable}
 
 module _ (r : DisjunctivePropagator) (es ls : List ℤ) (a : AcceptedInput r es ls) (long : length (r .durations) ≡ TASKS) where
@@ -69,22 +70,19 @@ module _ (r : DisjunctivePropagator) (es ls : List ℤ) (a : AcceptedInput r es 
       );
     }
 
+    sum-sayable : {w : Work} → WorkRight J w → (i : ℕ) → i < J .count → (z : ℤ) → length (decimal z) ≤ 10 → SumSayable i (w .est) (w .p) z
+    sum-sayable {w} o i q z few = record {
+      small = omega (arith, small i q, a .counts .earliest, a .lawful .few);
+      start = est-fits (flagged (w .tasks)) (w .est) (o .est);
+      short = omega (arith, o .p, p-fits (flagged (w .tasks)));
+      few = few;
+    }
+
     late-sayable : (i : ℕ) (z b : ℤ) → LateRight J c i z b → SumSayable i (c .set .est) (c .set .p) (c .lct) × SumSayable i (c .before .est) (c .before .p) z
-    late-sayable i z b o =
-        let q : i < TASKS = omega (arith, small i (o .task .small), a .counts .earliest, a .lawful .few) in (
-          record {
-            small = q;
-            start = est-fits (flagged (c .set .tasks)) (c .set .est) (o .set .est);
-            short = omega (arith, o .set .p, p-fits (flagged (c .set .tasks)));
-            few = lct-fits _ (c .lct) (o .lct);
-          },
-          record {
-            small = q;
-            start = est-fits (flagged (c .before .tasks)) (c .before .est) (o .before .est);
-            short = omega (arith, o .before .p, p-fits (flagged (c .before .tasks)));
-            few = subst (λ (y : ℤ). length (decimal y) ≤ 10) (sym (o .latest)) (start-fits (J .latest i) (latest-fits i (o .task .small)));
-          },
-        )
+    late-sayable i z b o = (
+      sum-sayable (o .set) i (o .task .small) (c .lct) (lct-fits _ (c .lct) (o .lct)),
+      sum-sayable (o .before) i (o .task .small) z (rw (o .latest) (start-fits (J .latest i) (latest-fits i (o .task .small)))),
+    )
 
     pub sayable : {bars : Bool} → ConflictFound r es ls bars c → Sayable c (c .found)
     sayable x = by (c .found) refl

@@ -1,15 +1,17 @@
 -- The definition's answer meets the contract: by the overload test, and where no set overloads by the run.
 use mathlib.Core.Path.{_≡_, refl, sym, ap, subst, _∙_}
-use mathlib.Core.Bool.{Bool}
+use mathlib.Core.Bool.{Bool, false}
 use mathlib.Core.Logic.{inl, inr}
-use mathlib.Core.List.{List, []}
+use mathlib.Core.List.{List}
 use Prim.Native.Nat.{ℕ, _-_, _≤_, _<_}
 use native.Mathlib.Omega.{arith}
 use native.Mathlib.Decide.{ℕ-discrete}
+use lib.Dec.{eqb}
 use lib.IntN.{ℤ}
 use lib.ListN.{length}
 use lib.Signed.{_<ℤ_}
-use Rattle.integers.specs.Answers.{Answer, answered}
+use borrow.Author.Tests.{eqb-false}
+use Rattle.integers.specs.Answers.{Answer}
 use Rattle.integers.specs.Limits.{TASKS, U32MAX}
 use Rattle.integers.specs.Moments.{moment, zeroAt}
 use Rattle.scheduling.specs.Scheduling.{whole, natural, Tasks, TaskSet, Overloads, EdgeFindingBound}
@@ -34,6 +36,7 @@ use Rattle.conflicts.specs.declared.answer.Conflict.{Conflict}
 use Rattle.conflicts.specs.declared.task_moments.TaskMoments.{TaskMoments}
 use Rattle.conflicts.specs.Answers.{noConflict}
 use Rattle.conflicts.specs.HeldTasks.{HoldsTasks, Overloadable}
+use Rattle.conflicts.specs.Numbers.{foundNumbers}
 use Rattle.conflicts.specs.ConflictOf.{overloadingSet, overloadBy, lateIn, lastPost, lateBy, conflictBy, conflictOf}
 use Rattle.conflicts.specs.Conflicts.{OverloadRight, LateRight, ConflictFound}
 use Rattle.conflicts.proofs.LastPosts.{right, sets, some-post, no-run-overload}
@@ -43,23 +46,11 @@ use Rattle.conflicts.proofs.OverloadingSets.{read-over, overloadable}
 use Rattle.conflicts.proofs.WholeSets.{overload-right}
 
 -- two answers of different kinds
-apart : {X : Type 0} {f : Found} {i : ℕ} {z b : ℤ} → f ≡ Late i z b → f ≡ Overload → X
-apart p q = let w : _≡_ {A = ℕ} 0 1 = cc in absurd (omega arith)
-
-not-late : {X : Type 0} {f : Found} {i : ℕ} {z b : ℤ} → f ≡ Late i z b → f ≡ NothingFound → X
-not-late p q = let w : _≡_ {A = ℕ} 0 1 = cc in absurd (omega arith)
-
-not-overload : {X : Type 0} {f : Found} → f ≡ Overload → f ≡ NothingFound → X
-not-overload p q = let w : _≡_ {A = ℕ} 0 1 = cc in absurd (omega arith)
+pub apart : {X : Type 0} {f g h : Found} → f ≡ g → f ≡ h → eqb (foundNumbers g .kind) (foundNumbers h .kind) ≡ false → X
+apart {g = g} {h = h} p q ne = absurd (eqb-false (foundNumbers g .kind) (foundNumbers h .kind) ne (ap (λ (f : Found). foundNumbers f .kind) (sym p ∙ q)))
 
 found-in : {c d : Conflict} → c ≡ d → c .found ≡ d .found
 found-in e = ap (λ (c : Conflict). c .found) e
-
--- where the overload test answers, nothing refused the input
-not-refused : {before : DisjunctivePropagator} {es ls : List ℤ} {bars : Bool} {o : tests.Overload} → OverloadTested before es ls bars o → overloadNumbers o .number ≡ 0
-    → inputNumber before es ls bars ≡ 0
-not-refused {before} {es} {ls} {bars} t z = elim (ℕ-discrete (inputNumber before es ls bars) 0)
-    [ yes e ↦ e | no h ↦ sym (ap (λ (x : Answer). x .number) (t .refused h)) ∙ z ]
 
 -- What refuses the input -------------------------------------------------------------------------------------------------------
 
@@ -71,8 +62,8 @@ was-refused before es ls bars c h e = record {
   nothing = λ z. absurd (h z);
   overload = λ z. absurd (h z);
   late = λ z. absurd (h z);
-  overloads = λ w. let p : Refused (inputNumber before es ls bars) ≡ Overload = sym (found-in e) ∙ w in let y : _≡_ {A = ℕ} 0 1 = cc in absurd (omega arith);
-  is-late = λ i z b w. let p : Refused (inputNumber before es ls bars) ≡ Late i z b = sym (found-in e) ∙ w in let y : _≡_ {A = ℕ} 0 1 = cc in absurd (omega arith);
+  overloads = λ w. apart (found-in e) w refl;
+  is-late = λ i z b w. apart (found-in e) w refl;
   no-schedule = λ z. absurd (h z);
 }
 
@@ -110,11 +101,11 @@ module _ (before : DisjunctivePropagator) (es ls : List ℤ) (bars : Bool) (acce
         record {
           refused = λ h. absurd (h accepted);
           answer = λ _. is;
-          nothing = λ _. (λ w. not-overload (found-in e) (found-in w), λ n. absurd (n (inl (Ω, oz))));
+          nothing = λ _. (λ w. apart (found-in e) (found-in w) refl, λ n. absurd (n (inl (Ω, oz))));
           overload = λ _. (λ _. (Ω, oz), λ _. found-in e);
-          late = λ _. (λ w. apart (w .3) (found-in e), λ w. absurd (w .0 Ω oz));
+          late = λ _. (λ w. apart (w .3) (found-in e) refl, λ w. absurd (w .0 Ω oz));
           overloads = λ _. subst (OverloadRight Z) (sym e) (overload-right Z (proper-whole before es ls a long) (above before es ls a long) few fits Ω o);
-          is-late = λ i z b w. apart w (found-in e);
+          is-late = λ i z b w. apart w (found-in e) refl;
           no-schedule = λ _ _. conflict-sound Z (proper-whole before es ls a long) (inl (Ω, oz));
         }
 
@@ -123,10 +114,10 @@ module _ (before : DisjunctivePropagator) (es ls : List ℤ) (bars : Bool) (acce
     by-late none i b edge passes e shown = record {
       refused = λ h. absurd (h accepted);
       answer = λ _. is;
-      nothing = λ _. (λ w. not-late e (found-in w), λ n. absurd (n (inr (i, b, edge, passes))));
-      overload = λ _. (λ w. apart e w, λ w. absurd (none (w .0) (w .1)));
+      nothing = λ _. (λ w. apart e (found-in w) refl, λ n. absurd (n (inr (i, b, edge, passes))));
+      overload = λ _. (λ w. apart e w refl, λ w. absurd (none (w .0) (w .1)));
       late = λ _. (λ _. (none, (i, b, edge, passes)), λ _. (i, Z .latest i, b, e));
-      overloads = λ w. apart e w;
+      overloads = λ w. apart e w refl;
       is-late = λ i′ z′ b′ w. same i′ z′ b′ (sym e ∙ w);
       no-schedule = λ _ _. conflict-sound Z (proper-whole before es ls a long) (inr (i, b, edge, passes));
     }
@@ -143,10 +134,10 @@ module _ (before : DisjunctivePropagator) (es ls : List ℤ) (bars : Bool) (acce
       refused = λ h. absurd (h accepted);
       answer = λ _. is;
       nothing = λ _. (λ _. none, λ _. e);
-      overload = λ _. (λ w. not-overload w (found-in e), λ w. absurd (none (inl (w .0, w .1))));
-      late = λ _. (λ w. not-late (w .3) (found-in e), λ w. absurd (none (inr (w .1))));
-      overloads = λ w. not-overload w (found-in e);
-      is-late = λ i z b w. not-late w (found-in e);
+      overload = λ _. (λ w. apart w (found-in e) refl, λ w. absurd (none (inl (w .0, w .1))));
+      late = λ _. (λ w. apart (w .3) (found-in e) refl, λ w. absurd (none (inr (w .1))));
+      overloads = λ w. apart w (found-in e) refl;
+      is-late = λ i z b w. apart w (found-in e) refl;
       no-schedule = λ _ h. absurd (h (found-in e));
     }
 
@@ -174,39 +165,26 @@ module _ (before : DisjunctivePropagator) (es ls : List ℤ) (bars : Bool) (acce
 
 -- The answer, by what the overload test has answered.
 module _ (before : DisjunctivePropagator) (es ls : List ℤ) (bars : Bool) (long : length (before .durations) ≡ TASKS) {o : tests.Overload} (t : OverloadTested before es ls bars o) where
-  passed : overloadNumbers o .number ≡ 0 → inputNumber before es ls bars ≡ 0
-  passed z = not-refused t z
+  module _ {v : tests.Overload} (e : o ≡ v) (z : overloadNumbers v .number ≡ 0) where
+    -- it answers, so nothing refused the input
+    passed : inputNumber before es ls bars ≡ 0
+    passed = elim (ℕ-discrete (inputNumber before es ls bars) 0)
+        [ yes y ↦ y | no h ↦ sym (ap (λ (x : Answer). x .number) (t .refused h)) ∙ ap (λ (x : tests.Overload). overloadNumbers x .number) e ∙ z ]
 
-  pub held : overloadNumbers o .number ≡ 0 → AcceptedInput before es ls
-  held z = accepted-input before es ls bars .0 (passed z) .0
+    pub held : AcceptedInput before es ls
+    held = accepted-input before es ls bars .0 passed .0
 
-  module _ (k : ℕ) (e : o ≡ test.Yes k) where
-    zero : overloadNumbers o .number ≡ 0
-    zero = ap (λ (x : tests.Overload). overloadNumbers x .number) e
+    answers : answerOf (momentsIn before es ls) ≡ v
+    answers = sym (t .answer passed) ∙ e
 
-    yes : answerOf (momentsIn before es ls) ≡ test.Yes k
-    yes = sym (t .answer (passed zero)) ∙ e
+  module _ (k : ℕ) (e : o ≡ test.Yes k) {m : TaskMoments} (h : HoldsTasks (momentsIn before es ls) m) where
+    pub yes-able : Overloadable m k
+    yes-able = overloadable (momentsIn before es ls) h k (answers e refl)
 
-    pub yes-held : AcceptedInput before es ls
-    yes-held = held zero
+    pub when-yes : (c : Conflict) → ((g : Overloadable m k) → c ≡ overloadBy (g .J) (overloadingSet (g .J) k)) → ConflictFound before es ls bars c
+    unfolding yes-able
+    when-yes c d = where-yes before es ls bars (passed e refl) long c (d yes-able ∙ sym (ap (conflictBy before es ls) (answers e refl))) k (answers e refl)
 
-    module _ {m : TaskMoments} (h : HoldsTasks (momentsIn before es ls) m) where
-      pub yes-able : Overloadable m k
-      yes-able = overloadable (momentsIn before es ls) h k yes
-
-      pub when-yes : (c : Conflict) → ((g : Overloadable m k) → c ≡ overloadBy (g .J) (overloadingSet (g .J) k)) → ConflictFound before es ls bars c
-      unfolding yes-able
-      when-yes c d = where-yes before es ls bars (passed zero) long c (d yes-able ∙ sym (ap (conflictBy before es ls) yes)) k yes
-
-  module _ (e : o ≡ test.No) where
-    none : overloadNumbers o ≡ answered 1 []
-    none = ap overloadNumbers e
-
-    pub no-held : AcceptedInput before es ls
-    no-held = held (ap (λ (x : Answer). x .number) none)
-
-    pub when-no : (c : Conflict) → c ≡ lateBy before es ls (traceOf before es ls .end) → ConflictFound before es ls bars c
-    when-no c d =
-        let z = passed (ap (λ (x : Answer). x .number) none) in
-        let no : answerOf (momentsIn before es ls) ≡ test.No = sym (t .answer z) ∙ e in
-        where-no before es ls bars z long c (d ∙ sym (ap (conflictBy before es ls) no)) no (t .no z .0 none)
+  pub when-no : o ≡ test.No → (c : Conflict) → c ≡ lateBy before es ls (traceOf before es ls .end) → ConflictFound before es ls bars c
+  when-no e c d =
+      where-no before es ls bars (passed e refl) long c (d ∙ sym (ap (conflictBy before es ls) (answers e refl))) (answers e refl) (t .no (passed e refl) .0 (ap overloadNumbers e))

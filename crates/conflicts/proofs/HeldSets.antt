@@ -2,7 +2,7 @@
 use mathlib.Core.Path.{_≡_, refl, sym, ap, _∙_}
 use mathlib.Core.Bool.{Bool, true, false, cond}
 use mathlib.Core.List.{List}
-use Prim.Native.Nat.{ℕ, _+_, _-_, _^_, _≤_, _<_}
+use Prim.Native.Nat.{ℕ, _+_, _^_, _≤_, _<_}
 use native.Mathlib.Omega.{arith}
 use lib.ListN.{getD, set}
 use borrow.Author.Tests.{ne-eqb}
@@ -13,6 +13,7 @@ use Rattle.scheduling.proofs.Processing.{processing-all, processing-mono}
 use Rattle.scheduling.proofs.Sets.{total-mono, total-part, less-self}
 use Rattle.trees.specs.NodeBounds.{LATEST}
 use Rattle.chosen_sets.specs.TaskArrays.{HeldSet}
+use Rattle.chosen_sets.proofs.RecordArrays.{choosing}
 use Rattle.conflicts.specs.declared.answer.Work.{Work}
 use Rattle.conflicts.specs.declared.spans.Span.{Span}
 use Rattle.conflicts.specs.declared.task_moments.TaskMoments.{TaskMoments}
@@ -62,16 +63,7 @@ module _ {m : TaskMoments} {tasks : List Bool} (h : HoldsSet m tasks) where
 
   -- as `theta_ect` requires it
   pub held-set : HeldSet J (h .Ω) (m .count) tasks (m .est) (m .durations)
-  held-set = record {
-    proper = h .holds .held .proper;
-    count = h .holds .held .count;
-    few = h .holds .held .few;
-    member = member-at;
-    start = h .holds .held .start;
-    lasts = h .holds .held .lasts;
-    early = h .holds .held .early;
-    sum = h .holds .held .sum;
-  }
+  held-set = choosing (h .holds .held) member-at
 
 -- The numbers of tasks that the arrays hold fit.
 module _ {J : Tasks natural} {m : TaskMoments} (h : HoldsTasks J m) where

@@ -8,7 +8,7 @@ use lib.IntN.{pos, _+ℤ_}
 use lib.Signed.{_<ℤ_}
 use Rattle.integers.specs.Limits.{TASKS, U32MAX}
 use Rattle.integers.specs.Moments.{moment, Above, instant, zeroAt}
-use Rattle.integers.proofs.MomentSums.{same, plus, plus-above, instant-above, moment-instant}
+use Rattle.integers.proofs.MomentSums.{same}
 use Rattle.scheduling.specs.Scheduling.{whole, natural, Tasks, Proper, TaskSet, Ect, EdgeFindingBound}
 use Rattle.scheduling.specs.Moments.{moments}
 use Rattle.scheduling.proofs.Agreement.{set-ect}
@@ -25,7 +25,7 @@ use Rattle.conflicts.specs.Conflicts.{LateRight}
 use Rattle.conflicts.proofs.LastPosts.{past-others, others-some}
 use Rattle.conflicts.proofs.SpanValues.{span-p, est-is}
 use Rattle.conflicts.proofs.SuffixSteps.{Suffix, suffix}
-use Rattle.conflicts.proofs.WholeSets.{same-flags, sum-past, work-right, lct-right}
+use Rattle.conflicts.proofs.WholeSets.{same-flags, sum-at, sum-past, work-right, lct-right}
 
 module _ (Z : Tasks whole) (ok : Proper Z) (low : (k : ℕ) → k < Z .count → Above zeroAt (Z .earliest k)) (few : Z .count ≤ TASKS)
     (fits : (k : ℕ) → k < Z .count → moment zeroAt (Z .earliest k) ≤ U32MAX) (p : Post) (s : SetsRight zeroAt (moments zeroAt Z) (earliestOrder (moments zeroAt Z)) p)
@@ -63,16 +63,7 @@ module _ (Z : Tasks whole) (ok : Proper Z) (low : (k : ℕ) → k < Z .count →
   past = past-others J (earliestOrder J) fits p s
 
   reaches : instant zeroAt (spanOf J T .est) +ℤ pos (spanOf J T .p) ≡ p .bound
-  reaches =
-      let e : Above zeroAt (instant zeroAt (spanOf J T .est)) = instant-above zeroAt (spanOf J T .est) in
-      same zeroAt _ (p .bound) (plus-above zeroAt (instant zeroAt (spanOf J T .est)) (spanOf J T .p) e) bound-above (omega (
-        arith,
-        plus zeroAt (instant zeroAt (spanOf J T .est)) (spanOf J T .p) e,
-        moment-instant zeroAt (spanOf J T .est),
-        est-is J T fits (J .earliest (before .first)) (before .est),
-        span-p J T,
-        before .sum,
-      ))
+  reaches = sum-at (spanOf J T) (p .bound) bound-above (omega (arith, est-is J T fits (J .earliest (before .first)) (before .est), span-p J T, before .sum))
 
   ect : Ect Z ω (p .bound)
   ect = let e : Is zeroAt Z ok low (Ect Z ω) b = ect← zeroAt Z ok low ω b (s .ect) in subst (Ect Z ω) (same zeroAt (e .at) (p .bound) (e .above) bound-above (e .is)) (e .holds)

@@ -1,6 +1,6 @@
 -- A loop that marks the numbers of a list, one a turn, leaves the flags of those that stand in it: of the tasks read, and of the variables of atoms.
-use mathlib.Core.Path.{_≡_, refl, sym, ap, ap₂, subst, _∙_}
-use mathlib.Core.Bool.{Bool, true, false, _||_}
+use mathlib.Core.Path.{_≡_, refl, sym, ap, ap₂, _∙_}
+use mathlib.Core.Bool.{Bool, true, _||_}
 use mathlib.Core.Logic.{inl, inr}
 use mathlib.Core.List.{List, [], _∷_, map}
 use Prim.Native.Nat.{ℕ, zero, suc, _+_, _*_, _≤_, _<_}
@@ -8,15 +8,15 @@ use native.Mathlib.Omega.{arith}
 use native.Mathlib.Numerals.{add-one}
 use lib.Dec.{eqb, leb}
 use lib.IntN.{ℤ, pos}
-use lib.ListN.{length, getD, set, take, length-take, length-map}
+use lib.ListN.{length, getD, set, take, length-map}
 use lib.Seq.{getD-take, take-length, take-take}
 use borrow.Author.Tests.{eq-eqb, ne-eqb}
 use Rattle.integers.specs.Limits.{TASKS}
-use Rattle.integers.specs.Orders.{has, index, sort, numbers}
-use Rattle.integers.proofs.Bools.{bool, or-right}
+use Rattle.integers.specs.Orders.{has, sort, numbers}
+use Rattle.integers.proofs.Bools.{bool, or-swap}
 use Rattle.integers.proofs.FilledLists.{filled-none}
 use Rattle.integers.proofs.Lists.{getD-map-in}
-use Rattle.integers.proofs.Permutations.{has-nil, has-at, index-at}
+use Rattle.integers.proofs.Permutations.{has-nil, has-at}
 use Rattle.scheduling.specs.Scheduling.{natural, Tasks, TaskSet, completion, Atom}
 use Rattle.scheduling.specs.Words.{no-atom}
 use Rattle.scheduling.proofs.Words.{atoms-length, three-alone}
@@ -24,7 +24,7 @@ use Rattle.sorts.specs.Orders.{SortedBy, byKey}
 use Rattle.sorts.proofs.Sorted.{sorted-as}
 use Rattle.runs.specs.ReasonSets.{named}
 use Rattle.overload_test.specs.ReadTasks.{byCompletion, read}
-use Rattle.overload_test.proofs.ReadTasks.{by-completion}
+use Rattle.overload_test.proofs.ReadTasks.{by-completion, read-small}
 use Rattle.conflicts.specs.declared.task_moments.TaskMoments.{TaskMoments}
 use Rattle.conflicts.specs.Answers.{noFlags, flagsOf}
 use Rattle.conflicts.specs.HeldTasks.{HoldsTasks, NamesTasks}
@@ -34,19 +34,11 @@ use Rattle.conflicts.proofs.Flags.{flag-set, flags-agree}
 abbrev pub marked : List ℕ → ℕ → List Bool
 marked l t = flagsOf TASKS (has (take t l))
 
-or-none : (b : Bool) → b || false ≡ b
-or-none true = refl
-or-none false = refl
-
-has-front : (l : List ℕ) (t k : ℕ) → t < length l → has (take (suc t) l) k ≡ has (take t l) k || eqb (getD l t 0) k
+has-front : (l : List ℕ) (t k : ℕ) → t < length l → has (take (suc t) l) k ≡ eqb (getD l t 0) k || has (take t l) k
 unfolding has
 has-front [] t k q = absurd (omega arith)
-has-front (x ∷ l) zero k q = or-none (eqb x k)
-has-front (x ∷ l) (suc t) k q = rw (has-front l t k (omega arith)) (assoc (eqb x k) (has (take t l) k) (eqb (getD l t 0) k))
-  where
-    assoc : (a b c : Bool) → a || (b || c) ≡ (a || b) || c
-    assoc true b c = refl
-    assoc false b c = refl
+has-front (x ∷ l) zero k q = refl
+has-front (x ∷ l) (suc t) k q = rw (has-front l t k (omega arith)) (or-swap (eqb x k) (eqb (getD l t 0) k) (has (take t l) k))
 
 pub none-marked : (l : List ℕ) → noFlags ≡ marked l 0
 none-marked l = sym (filled-none (has []) noFlags) ∙ flags-agree 0 TASKS (omega arith) (omega arith) (has []) (has []) (λ k q. absurd (omega arith)) (λ k q r. has-nil k)
@@ -54,8 +46,7 @@ none-marked l = sym (filled-none (has []) noFlags) ∙ flags-agree 0 TASKS (omeg
 pub one-marked : (l : List ℕ) (t : ℕ) → t < length l → getD l t 0 < TASKS → {flags : List Bool} → flags ≡ marked l t → set flags (getD l t 0) true ≡ marked l (t + 1)
 one-marked l t q r {flags} e = rw (add-one t) (ap (λ (f : List Bool). set f (getD l t 0) true) e
     ∙ flag-set TASKS (omega arith) (has (take t l)) (has (take (suc t) l)) (getD l t 0) true r
-    (has-front l t (getD l t 0) q ∙ or-right (has (take t l) (getD l t 0)) _ (eq-eqb (getD l t 0) (getD l t 0) refl))
-    (λ k s ne. has-front l t k q ∙ ap (λ (b : Bool). has (take t l) k || b) (ne-eqb (getD l t 0) k (λ z. ne (sym z))) ∙ or-none (has (take t l) k)))
+    (has-front l t (getD l t 0) q ∙ rw (eq-eqb (getD l t 0) (getD l t 0) refl)) (λ k s ne. has-front l t k q ∙ rw (ne-eqb (getD l t 0) k (λ z. ne (sym z)))))
 
 -- flags of tasks among those held
 pub names-hold : {J : Tasks natural} {m : TaskMoments} → HoldsTasks J m → (S : TaskSet) → ((k : ℕ) → S k ≡ true → k < J .count) → flagsOf TASKS S ≡ flagsOf (J .count) S
@@ -78,14 +69,7 @@ module _ (J : Tasks natural) {m : TaskMoments} (h : HoldsTasks J m) {tasks : Lis
   -- the first k of them are those read
   pub read-marked : (k : ℕ) → k ≤ m .count → marked tasks k ≡ flagsOf (J .count) (read J k)
   read-marked k q = ap (λ (l : List ℕ). flagsOf TASKS (has l)) (sym (take-take k (m .count) tasks q) ∙ ap (take k) order-is)
-      ∙ names-hold h (read J k) small
-    where
-      small : (j : ℕ) → read J k j ≡ true → j < J .count
-      small j y =
-          let (r, e) = index-at (take k (byCompletion J)) j y in
-          let i : ℕ = index (take k (byCompletion J)) j in
-          let t : i < k = omega (arith, length-take k (byCompletion J), r) in
-          subst (λ (x : ℕ). x < J .count) (sym (getD-take k (byCompletion J) i 0 t) ∙ e) (by-completion J .task i (omega (arith, h .held .count)))
+      ∙ names-hold h (read J k) (read-small J k)
 
 -- The variables of atoms -------------------------------------------------------------------------------------------------------
 

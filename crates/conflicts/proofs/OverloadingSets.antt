@@ -1,13 +1,11 @@
 -- Where the tasks read overload, the longest suffix of them that attains their ect does.
 use mathlib.Core.Path.{_≡_, sym, ap, subst, _∙_}
-use mathlib.Core.Bool.{true, false}
-use mathlib.Core.Logic.{_⊎_, inl, inr}
+use mathlib.Core.Bool.{true}
 use mathlib.Core.Option.{some}
-use Prim.Native.Nat.{ℕ, zero, suc, _+_, _-_, _≤_, _<_, max}
+use Prim.Native.Nat.{ℕ, zero, suc, _-_, _≤_, _<_, max}
 use native.Mathlib.Omega.{arith}
 use lib.ListN.{getD}
 use Rattle.integers.specs.Orders.{index}
-use Rattle.integers.proofs.Bools.{bool}
 use Rattle.scheduling.specs.Scheduling.{natural, Tasks, Proper, TaskSet, In, Overloads, completion}
 use Rattle.scheduling.specs.Ects.{byEarliest, ectOf}
 use Rattle.scheduling.proofs.Ects.{by-earliest, ect-is}
@@ -45,9 +43,11 @@ module _ (J : Tasks natural) (ok : Proper J) where
       let there : getD (byEarliest J) (index (byEarliest J) m) 0 ≡ m = by-earliest J .there m (mm .small) in
       suffix J Ω v (index (byEarliest J) m) (by-earliest J .placed m (mm .small)) (ap Ω there ∙ mm .mem) (omega (arith, z, ap (J .earliest) there))
 
-  pub overloading : (k : ℕ) → k < J .count → overloadsAt J k ≡ true → Overloads J (overloadingSet J (suc k))
-  overloading k q y =
-      let (v, e, over) = exceeds-yes (ectOf J (read J (suc k))) (completion J (getD (byCompletion J) k 0)) y in
+  pub overloading : (k : ℕ) → 1 ≤ k → k ≤ J .count → overloadsAt J (k - 1) ≡ true → Overloads J (overloadingSet J k)
+  overloading zero p q y = absurd (omega arith)
+  overloading (suc k) p q y =
+      let here : k ≡ suc k - 1 = omega arith in
+      let (v, e, over) = exceeds-yes (ectOf J (read J (suc k))) (completion J (getD (byCompletion J) k 0)) (ap (overloadsAt J) here ∙ y) in
       let z : max 0 v ≡ v = omega arith in
       subst (λ (t : ℕ). Overloads J (suffixTo J (read J (suc k)) t)) (sym (ap (raisedTo 0) e ∙ z)) (by v over (attained (read J (suc k)) v e))
     where
@@ -62,13 +62,8 @@ module _ (J : Tasks natural) (ok : Proper J) where
               (by-completion J .sorted (index (byCompletion J) j) k (omega (arith, read-place J (suc k) j (s .within j (h .mem)))) q)
 
   pub read-over : (k : ℕ) → answerOf J ≡ Yes k → Overloads J (overloadingSet J k)
-  read-over k e =
-      let (least, most, over) = yes-at J 0 (J .count) k e in
-      let z : suc (k - 1) ≡ k = omega arith in
-      subst (λ (j : ℕ). Overloads J (overloadingSet J j)) z (overloading (k - 1) (omega arith) over)
+  read-over k e = let (least, most, over) = yes-at J 0 (J .count) k e in overloading k least (omega arith) over
 
 -- the same, as the code holds it
 pub overloads-when : {m : TaskMoments} {k : ℕ} (h : Overloadable m k) → Overloads (h .J) (overloadingSet (h .J) k)
-overloads-when {m} {k} h =
-    let z : suc (k - 1) ≡ k = omega (arith, h .some) in
-    subst (λ (j : ℕ). Overloads (h .J) (overloadingSet (h .J) j)) z (overloading (h .J) (h .holds .held .proper) (k - 1) (omega (arith, h .some, h .few, h .holds .held .count)) (h .over))
+overloads-when {m} {k} h = overloading (h .J) (h .holds .held .proper) k (h .some) (omega (arith, h .few, h .holds .held .count)) (h .over)

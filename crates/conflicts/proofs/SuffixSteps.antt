@@ -1,20 +1,20 @@
 -- The walk to the longest suffix with a given est + p: one place more, where it stops, and what it leaves there.
-use mathlib.Core.Path.{_≡_, refl, sym, ap, _∙_}
-use mathlib.Core.Bool.{Bool, true, false, _&&_}
+use mathlib.Core.Path.{_≡_, sym, ap, _∙_}
+use mathlib.Core.Bool.{true, false}
 use mathlib.Core.Logic.{inl, inr}
 use Prim.Native.Nat.{ℕ, zero, suc, _+_, _-_, _≤_, _<_}
 use native.Mathlib.Omega.{arith}
 use native.Mathlib.Decide.{ℕ-discrete}
 use lib.Dec.{leb}
 use lib.ListN.{getD}
-use borrow.Author.Tests.{ne-eqb, eq-eqb, eqb-true, leb-true, le-leb, lt-leb}
+use borrow.Author.Tests.{eq-eqb, eqb-true, le-leb}
 use Rattle.integers.specs.Orders.{index}
-use Rattle.integers.proofs.Bools.{bool, clash, and-true, and-yes, and-left, and-is, leb-step}
+use Rattle.integers.proofs.Bools.{bool, clash, and-true, and-yes, and-is}
 use Rattle.scheduling.specs.Scheduling.{natural, Tasks, TaskSet, In, Est, processing}
 use Rattle.scheduling.specs.Ects.{byEarliest}
 use Rattle.scheduling.proofs.Ects.{by-earliest}
-use Rattle.scheduling.proofs.Processing.{processing-same, processing-less}
-use Rattle.scheduling.proofs.Sets.{_less_, less-self}
+use Rattle.scheduling.proofs.Suffixes.{onward-in, onward-early, onward-est}
+use Rattle.scheduling.proofs.Suffixes as suffixes
 use Rattle.conflicts.specs.Suffixes.{onward, reachesAt, firstPlace, suffixTo}
 
 module _ (J : Tasks natural) (Ω : TaskSet) where
@@ -37,11 +37,11 @@ module _ (J : Tasks natural) (Ω : TaskSet) where
   onward-first x q = and-is (leb x (rank (T x))) (Ω (T x)) (le-leb x (rank (T x)) (omega (arith, by-earliest J .back x q)))
 
   pub onward-gone : (x : ℕ) → x < n → onward J Ω (suc x) (T x) ≡ false
-  onward-gone x q = and-left (leb (suc x) (rank (T x))) (Ω (T x)) (lt-leb (suc x) (rank (T x)) (omega (arith, by-earliest J .back x q)))
+  onward-gone x q = onward-early J T rank (by-earliest J) Ω (suc x) (T x) (omega (arith, by-earliest J .back x q))
 
   -- the other tasks stay
   pub onward-stays : (x k : ℕ) → k < n → (k ≡ T x → ⊥) → onward J Ω (suc x) k ≡ onward J Ω x k
-  onward-stays x k q ne = ap (λ (b : Bool). b && Ω k) (sym (leb-step x (rank k) (λ z. ne (sym (by-earliest J .there k q) ∙ ap T z))))
+  onward-stays x k q ne = sym (suffixes.onward-stays J T rank (by-earliest J) Ω x k q ne)
 
   -- all stay where that task is not in the set
   pub onward-skip : (x k : ℕ) → x < n → k < n → Ω (T x) ≡ false → onward J Ω (suc x) k ≡ onward J Ω x k
@@ -51,21 +51,10 @@ module _ (J : Tasks natural) (Ω : TaskSet) where
   ]
 
   pub sum-skip : (x : ℕ) → x < n → Ω (T x) ≡ false → processing J (onward J Ω (suc x)) ≡ processing J (onward J Ω x)
-  sum-skip x p y = processing-same J (onward J Ω (suc x)) (onward J Ω x) (λ k q. onward-skip x k p q y)
+  sum-skip x p y = sym (suffixes.sum-skip J T rank (by-earliest J) Ω x p y)
 
   pub sum-less : (x : ℕ) → x < n → Ω (T x) ≡ true → processing J (onward J Ω x) ≡ processing J (onward J Ω (suc x)) + J .duration (T x)
-  sum-less x p y =
-      let m : In J (onward J Ω x) (T x) = record { small = by-earliest J .task x p; mem = onward-first x p ∙ y } in
-      omega (arith, processing-less J (onward J Ω x) (T x) m, processing-same J (onward J Ω x less T x) (onward J Ω (suc x)) rest)
-    where
-      rest : (k : ℕ) → k < n → (onward J Ω x less T x) k ≡ onward J Ω (suc x) k
-      rest k q = elim (ℕ-discrete k (T x)) [
-        | yes z ↦ rw z (less-self (onward J Ω x) (T x) ∙ sym (onward-gone x p))
-        | no z ↦ rw (ne-eqb k (T x) z) (sym (onward-stays x k q z))
-      ]
-
-  pub onward-in : (x k : ℕ) → onward J Ω x k ≡ true → (x ≤ rank k) × (Ω k ≡ true)
-  onward-in x k h = let (a, b) = and-true (leb x (rank k)) (Ω k) h in (leb-true x (rank k) a, b)
+  sum-less = suffixes.sum-less J T rank (by-earliest J) Ω
 
   -- The walk -----------------------------------------------------------------------------------------------------------------
 
@@ -114,19 +103,10 @@ module _ (J : Tasks natural) (Ω : TaskSet) where
         let s = stops n 0 y (omega arith) (omega arith) (record { small = q; reaches = and-yes (Ω (T y)) _ m (eq-eqb _ _ e) }) in
         let x : ℕ = firstPlace J Ω t 0 n in
         let (here, there) = and-true (Ω (T x)) _ (s .reaches) in
-        let mem : In J (onward J Ω x) (T x) = record { small = by-earliest J .task x (s .small); mem = onward-first x (s .small) ∙ here } in
         record {
-          within = λ k h. onward-in x k h .1;
+          within = λ k h. onward-in J T rank (by-earliest J) Ω x k h .1;
           first = T x;
-          member = mem;
-          est = record {
-            holds = (T x, mem, refl);
-            bounds = λ w (k, km, z). omega (
-              arith,
-              z,
-              ap (J .earliest) (by-earliest J .there k (km .small)),
-              by-earliest J .sorted x (rank k) (onward-in x k (km .mem) .0) (by-earliest J .placed k (km .small)),
-            );
-          };
+          member = suffixes.onward-first J T rank (by-earliest J) Ω x (s .small) here;
+          est = onward-est J T rank (by-earliest J) Ω x (s .small) here;
           sum = eqb-true _ _ there;
         }

@@ -15,7 +15,7 @@ use Rattle.records.specs.declared.record.DisjunctivePropagator.{DisjunctiveProp
 use Rattle.records.specs.Records.{momentsIn}
 use Rattle.records.specs.Refusals.{AcceptedInput}
 use Rattle.chosen_sets.specs.TaskArrays.{HeldSet}
-use Rattle.chosen_sets.proofs.RecordArrays.{held, late}
+use Rattle.chosen_sets.proofs.RecordArrays.{held, late, choosing}
 use Rattle.precedences.specs.PredecessorArrays.{precedesAt, comesBefore, Boundable}
 
 -- a record and its ranges that are accepted
@@ -33,15 +33,6 @@ module _ {n : ℕ} {est lst durations : List ℕ} (f : Boundable n est lst durat
   precedes-is k r = rw (f .late .at k r, f .held .start i q, f .held .lasts i q)
 
   pub chosen : {before : List Bool} → before ≡ filled (precedesAt est lst durations i) n (replicate TASKS false) → HeldSet (f .J) (comesBefore (f .J) i) n before est durations
-  chosen e = let h = f .held in
-      record {
-        proper = h .proper;
-        count = h .count;
-        few = h .few;
-        member = λ k r. ap (λ (l : List Bool). getD l k false) e ∙ filled-at (precedesAt est lst durations i) n (replicate TASKS false) false k r (omega (arith, length-replicate TASKS false, h .few))
-            ∙ precedes-is k r;
-        start = h .start;
-        lasts = h .lasts;
-        early = h .early;
-        sum = h .sum;
-      }
+  chosen e = choosing (f .held)
+      (λ k r. ap (λ (l : List Bool). getD l k false) e ∙ filled-at (precedesAt est lst durations i) n (replicate TASKS false) false k r (omega (arith, length-replicate TASKS false, f .held .few))
+      ∙ precedes-is k r)

@@ -1,28 +1,22 @@
 -- The atoms of the members of a set: task by task, their number, and what holds of all of them. They depend on the tasks below n only.
 use mathlib.Core.Path.{_≡_, refl, sym, ap, ap₂, subst, _∙_}
-use mathlib.Core.Bool.{Bool, true, false}
+use mathlib.Core.Bool.{Bool, true, false, cond}
 use mathlib.Core.List.{List, [], _++_}
 use Prim.Native.Nat.{ℕ, zero, suc, _+_, _*_, _≤_, _<_}
 use native.Mathlib.Omega.{arith}
 use native.Mathlib.Numerals.{add-one}
-use native.Mathlib.Decide.{decLt}
 use lib.IntN.{ℤ}
 use lib.ListN.{length, length-append}
-use Rattle.integers.proofs.Bools.{below-suc}
-use Rattle.scheduling.specs.Scheduling.{TaskSet, Atom, Every}
+use Rattle.integers.proofs.Bools.{cond-most, below-suc}
+use Rattle.scheduling.specs.Scheduling.{TaskSet, Atom, Every, total}
+use Rattle.scheduling.proofs.Sets.{total-none, total-suc, total-ones, total-part, total-less}
 use Rattle.scheduling.proofs.Every.{every-append, every-left, every-right}
 use Rattle.precedences.specs.Reasons.{atLeast, atMost, bothOf, bothBounds}
 
 -- one task's atoms
-two-at-most : (b : Bool) (j : ℕ) (e l : ℤ) → length (bothOf b j e l) ≤ 2
-two-at-most true j e l = omega arith
-two-at-most false j e l = omega arith
-
-pub two-of : (b : Bool) (j : ℕ) (e l : ℤ) → b ≡ true → length (bothOf b j e l) ≡ 2
-two-of b j e l y = rw y
-
-none-of : (b : Bool) (j : ℕ) (e l : ℤ) → b ≡ false → length (bothOf b j e l) ≡ 0
-none-of b j e l y = rw y
+size-of : (b : Bool) (j : ℕ) (e l : ℤ) → length (bothOf b j e l) ≡ 2 * cond b 1 0
+size-of true j e l = refl
+size-of false j e l = refl
 
 module _ (e l : ℕ → ℤ) (Ω : TaskSet) where
   abbrev both : ℕ → List Atom
@@ -42,32 +36,26 @@ module _ (e l : ℕ → ℤ) (Ω : TaskSet) where
   pub both-more : (n : ℕ) → bothBounds e l Ω (n + 1) ≡ bothBounds e l Ω n ++ bothOf (Ω n) n (e n) (l n)
   both-more n = ap both (add-one n) ∙ both-suc n
 
-  -- how many
-  length-suc : (n : ℕ) → length (both (suc n)) ≡ length (both n) + length (one n)
-  length-suc n = ap length (both-suc n) ∙ length-append (both n) (one n)
+  -- how many: two a member
+  abbrev count : ℕ → ℕ
+  count = total (λ k. cond (Ω k) 1 0)
 
-  few : (n : ℕ) → length (both n) ≤ 2 * n
-  few zero = omega (arith, ap length both-none)
-  few (suc n) = omega (arith, few n, length-suc n, two-at-most (Ω n) n (e n) (l n))
+  two-each : (n : ℕ) → length (both n) ≡ 2 * count n
+  two-each zero = omega (arith, ap length both-none, total-none (λ k. cond (Ω k) 1 0))
+  two-each (suc n) = omega (arith, two-each n, total-suc (λ k. cond (Ω k) 1 0) n, ap length (both-suc n) ∙ length-append (both n) (one n), size-of (Ω n) n (e n) (l n))
 
   -- fewer where some task is no member
   pub fewer : (i n : ℕ) → i < n → Ω i ≡ false → length (bothBounds e l Ω n) + 2 ≤ 2 * n
-  fewer i zero q y = absurd (omega arith)
-  fewer i (suc n) q y = elim (decLt i n) [
-    | yes r ↦ omega (arith, fewer i n r y, length-suc n, two-at-most (Ω n) n (e n) (l n))
-    | no r ↦ last (omega arith)
-  ]
-    where
-      last : i ≡ n → length (both (suc n)) + 2 ≤ 2 * suc n
-      last z = omega (arith, few n, length-suc n, none-of (Ω n) n (e n) (l n) (subst (λ (k : ℕ). Ω k ≡ false) z y))
+  fewer i n q y = omega (
+    arith,
+    two-each n,
+    total-less (λ k. cond (Ω k) 1 0) (λ k. 1) n i q (λ k r. cond-most (Ω k) 1) (omega (arith, ap {B = ℕ} (λ b. cond b 1 0) y)),
+    total-ones n,
+  )
 
-  -- those up to a task are a part of all
-  pub part : (j n : ℕ) → j < n → length (bothBounds e l Ω j) + length (bothOf (Ω j) j (e j) (l j)) ≤ length (bothBounds e l Ω n)
-  part j zero q = absurd (omega arith)
-  part j (suc n) q = elim (decLt j n) [ yes r ↦ omega (arith, part j n r, length-suc n) | no r ↦ last (omega arith) ]
-    where
-      last : j ≡ n → length (both j) + length (one j) ≤ length (both (suc n))
-      last z = subst (λ (k : ℕ). length (both k) + length (one k) ≤ length (both (suc n))) (sym z) (omega (arith, length-suc n))
+  -- both of a member are a part of all
+  pub part : (j n : ℕ) → j < n → Ω j ≡ true → length (bothBounds e l Ω j) + 2 ≤ length (bothBounds e l Ω n)
+  part j n q y = omega (arith, two-each j, two-each n, total-part (λ k. cond (Ω k) 1 0) n j q, ap {B = ℕ} (λ b. cond b 1 0) y)
 
   -- what holds of every one
   module _ (P : Atom → Type 0) where

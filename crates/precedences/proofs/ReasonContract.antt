@@ -1,7 +1,6 @@
 -- What the reason's call leaves, and what its reason means.
 use mathlib.Core.Path.{_≡_, refl, sym, ap, subst, _∙_}
 use mathlib.Core.Bool.{Bool, true, false, not}
-use mathlib.Core.Logic.{inl, inr}
 use mathlib.Core.List.{List, [], _∷_}
 use mathlib.Core.Option.{Option}
 use Prim.Native.Nat.{ℕ, _+_, _*_, _≤_, _<_}
@@ -16,10 +15,11 @@ use Rattle.integers.specs.FilledLists.{filled, noTasks}
 use Rattle.integers.specs.Limits.{TASKS}
 use Rattle.integers.specs.Moments.{instant, zeroAt, momentAt}
 use Rattle.integers.specs.Words.{overwritten}
-use Rattle.integers.proofs.Bools.{bool, clash}
+use Rattle.integers.proofs.Bools.{clash}
 use Rattle.integers.proofs.MomentSums.{instant-moment}
+use Rattle.integers.proofs.Tests.{broken}
 use Rattle.integers.proofs.Words.{overwrites}
-use Rattle.scheduling.specs.Scheduling.{whole, natural, Tasks, TaskSet, In, Atom, Meets, HoldsAtEntry, Contradicts}
+use Rattle.scheduling.specs.Scheduling.{whole, natural, Tasks, Proper, TaskSet, In, Atom, Meets, HoldsAtEntry, Contradicts}
 use Rattle.scheduling.specs.Words.{atomWords}
 use Rattle.scheduling.proofs.Words.{atoms-none, atoms-more, atoms-length}
 use Rattle.trees.specs.Ects.{exceeds}
@@ -40,7 +40,7 @@ use Rattle.precedences.specs.ReasonNumbers.{reasonNumbers}
 use Rattle.precedences.specs.Bounds.{Raises}
 use Rattle.precedences.specs.Reasons.{atLeast, atMost, bothOf, bothBounds, reasonOf, Explained, AcceptedReason, reasonNumber, ReasonGiven}
 use Rattle.precedences.specs.ReasonArrays.{memberAt, reasonAt, ReasonLeft}
-use Rattle.precedences.proofs.BoundAbove.{from-start, among, raises-yes, raises-no}
+use Rattle.precedences.proofs.BoundAbove.{from-start, among, raises-is}
 use Rattle.precedences.proofs.Members.{both-none, fewer, every-member, member-every, both-same}
 
 -- one atom in the slice
@@ -87,18 +87,18 @@ module _ (J : Tasks whole) (i : ℕ) (q : i < J .count) where
     first : AllBefore J i s
     first = all-before J s (c .apart) i q from (λ k h. ranges k h .1)
 
-    bounded : ((k : ℕ) → k < J .count → 1 ≤ J .duration k) → (b : ℤ) → PrecedenceBound J i b → b ≤ℤ s i
-    bounded lasts = bound-holds J lasts s (c .apart) i q from ranges
+    bounded : Proper J → (b : ℤ) → PrecedenceBound J i b → b ≤ℤ s i
+    bounded ok = bound-holds J ok s (c .apart) i q from ranges
 
   -- the contract from the words that are written
-  pub explained : ((k : ℕ) → k < J .count → 1 ≤ J .duration k) → (ws : List ℤ) (r : Reason) (ws′ : List ℤ)
+  pub explained : Proper J → (ws : List ℤ) (r : Reason) (ws′ : List ℤ)
       → (Raises J i → (reasonNumbers r ≡ answered 0 (pos (length (reasonOf J i)) ∷ [])) × (ws′ ≡ overwritten ws (atomWords (reasonOf J i))))
       → ((Raises J i → ⊥) → (reasonNumbers r ≡ answered 0 (pos 0 ∷ [])) × (ws′ ≡ ws)) → Explained J i ws r ws′
-  explained lasts ws r ws′ w n = record { written = w; nothing = n; few = few; holds = holds; before = λ s c. first s c; sound = λ b e s c. c .consequent-not (bounded s c lasts b e) }
+  explained ok ws r ws′ w n = record { written = w; nothing = n; few = few; holds = holds; before = λ s c. first s c; sound = λ b e s c. c .consequent-not (bounded s c ok b e) }
 
 -- where the bound raises nothing
 pub nothing-left : {n : ℕ} {est lst durations : List ℕ} (f : Boundable n est lst durations) (i : ℕ) → i < n → {l : List ℤ} {o : Option ℕ} {t : Bool}
-    → o ≡ boundAt (f .J) i → t ≡ exceeds o (getD est i 0) → not t ≡ true → ReasonLeft (f .J) i l 0 l
+    → ((f : Boundable n est lst durations) → o ≡ boundAt (f .J) i) → t ≡ exceeds o (getD est i 0) → not t ≡ true → ReasonLeft (f .J) i l 0 l
 nothing-left f i q b e h = record { written = λ k. clash k (from-start f i q b e (not-true _ h)); nothing = λ _. (refl, refl) }
 
 -- The atoms that the arrays give.
@@ -119,7 +119,7 @@ module _ {n : ℕ} {est lst durations : List ℕ} (f : Boundable n est lst durat
   pub members-fit : (size : ℕ) → 6 * n ≤ size → 3 * (1 + length (bothBounds (startAt est) (startAt lst) (memberAt before) n)) ≤ size
   members-fit size h = omega (arith, fewer (startAt est) (startAt lst) (memberAt before) i n q own-out)
 
-  pub reason-left : {l m o : List ℤ} {r : ℕ} {b : Option ℕ} {u : Bool} → b ≡ boundAt (f .J) i → u ≡ exceeds b (getD est i 0) → not u ≡ false
+  pub reason-left : {l m o : List ℤ} {r : ℕ} {b : Option ℕ} {u : Bool} → ((f : Boundable n est lst durations) → b ≡ boundAt (f .J) i) → u ≡ exceeds b (getD est i 0) → not u ≡ false
       → m ≡ sets l (3 * 0) (pos i ∷ pos 0 ∷ instant zeroAt (getD est i 0) ∷ [])
       → Stored m o 1 r (bothBounds (startAt est) (startAt lst) (memberAt before) n) → ReasonLeft (f .J) i l r o
   reason-left {l} {m} {o} {r} z g h p t =
@@ -139,7 +139,7 @@ module _ (r : DisjunctivePropagator) (es ls : List ℤ) (a : AcceptedInput r es 
 
   pub gave : (ws ws′ : List ℤ) (c : ℕ) → AcceptedReason r i (length ws) → ((f : Boundable (r .count) est lst (r .durations)) → ReasonLeft (f .J) i ws c ws′)
       → Explained (tasksIn r es ls) i ws (Written c) ws′
-  gave ws ws′ c b told = explained Z i q (proper-whole r es ls a long .lasts) ws (Written c) ws′ written nothing
+  gave ws ws′ c b told = explained Z i q (proper-whole r es ls a long) ws (Written c) ws′ (λ w. stands (raises-is r es ls a long i (b .small) .1 w)) nothing
     where
       left : ReasonLeft M i ws c ws′
       left = told (boundable r es ls a long e l)
@@ -166,17 +166,8 @@ module _ (r : DisjunctivePropagator) (es ls : List ℤ) (a : AcceptedInput r es 
           let z : c ≡ length (reasonOf Z i) = omega (arith, s .count) in
           (ap (λ (n : ℕ). reasonNumbers (Written n)) z, s .words ∙ overwrites ws (atomWords (reasonOf Z i)) enough)
 
-      written : Raises Z i → (answered 0 (pos c ∷ []) ≡ answered 0 (pos (length (reasonOf Z i)) ∷ [])) × (ws′ ≡ overwritten ws (atomWords (reasonOf Z i)))
-      written w = elim (bool (exceeds (boundAt M i) (M .earliest i))) [
-        | inl h ↦ stands h
-        | inr h ↦ absurd (raises-no r es ls a long i (b .small) h w)
-      ]
-
       nothing : (Raises Z i → ⊥) → (answered 0 (pos c ∷ []) ≡ answered 0 (pos 0 ∷ [])) × (ws′ ≡ ws)
-      nothing no-raise = elim (bool (exceeds (boundAt M i) (M .earliest i))) [
-        | inl h ↦ absurd (no-raise (raises-yes r es ls a long i (b .small) h))
-        | inr h ↦ (let w = left .nothing h in (ap (λ (n : ℕ). reasonNumbers (Written n)) (w .0), w .1))
-      ]
+      nothing no-raise = let w = left .nothing (broken (raises-is r es ls a long i (b .small)) .1 no-raise) in (ap (λ (n : ℕ). reasonNumbers (Written n)) (w .0), w .1)
 
 -- The contract, by the number that the tests answer.
 module _ (before : DisjunctivePropagator) (es ls : List ℤ) (bars : Bool) (task : ℕ) (ws : List ℤ) {m : ℕ} (e : m ≡ reasonNumber before es ls bars task (length ws)) where

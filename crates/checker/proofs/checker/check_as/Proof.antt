@@ -2,7 +2,7 @@
 use mathlib.Core.Path.{_≡_, refl, sym, _∙_}
 use mathlib.Core.Bool.{Bool}
 use mathlib.Core.List.{List}
-use mathlib.Core.Logic.{⊎-elim}
+use mathlib.Core.Logic.{inl, inr}
 use Prim.Native.Nat.{ℕ}
 use lib.IntN.{ℤ}
 use lib.ListN.{length}
@@ -42,11 +42,6 @@ module _ (c : tie.Else1) where
 
   lengths : c .before .creation-refusal .last .0 ≡ lengthsOf ds
   lengths = c .before .creation-refusal .ensures .1 (c .if1 .left)
-
-returns : tie.Need-returns
-returns c =
-    let a = c .before .before .before .args in
-    is-refused (a .durations .now) (a .premises .now) (a .consequent .now) (a .direction) (c .before .creation-refusal .result) (c .before .creation-refusal .ensures .0) (c .if1 .taken)
 
 prepare-bounds-requires : tie.Need-prepare-bounds-requires
 prepare-bounds-requires c κs = let s = c .before .before .before in (created-lawful (ds s) (accepted s) .few, (refl, refl, refl))
@@ -92,10 +87,10 @@ judgeable : (c : tie.At-match2-came) → let e = c .before in let a = passed e i
 judgeable c =
     let e = c .before in
     let a = passed e in
-    ⊎-elim
-    (λ w. alike (s e) (w .1 .given .1) (w .7) (w .8) (can-judge-mirrored (ds a) (ps a) (cs a) (accepted a) (consistent e) (b e) _ _ (bounds e) (w .6 .ensures) (lengths a)))
-    (λ w. alike (s e) (w .1 .given .1) (w .2) (w .3) (can e))
-    (c .match2 .came)
+    elim (c .match2 .came) [
+      | inl w ↦ alike (s e) (w .1 .given .1) (w .7) (w .8) (can-judge-mirrored (ds a) (ps a) (cs a) (accepted a) (consistent e) (b e) _ _ (bounds e) (w .6 .ensures) (lengths a))
+      | inr w ↦ alike (s e) (w .1 .given .1) (w .2) (w .3) (can e)
+    ]
 
 judge-requires : tie.Need-judge-requires
 judge-requires c κs =
@@ -109,24 +104,13 @@ returns-2 c =
     let j = c .before .before .before .before .before in
     let e = j .before in
     let a = passed e in
-    concluded-by (ds a) (ps a) (cs a) (direction a) (accepted a) (consistent e) (c .judge .result)
+    concluded-by (ds a) (ps a) (cs a) (direction a) (a .before .creation-refusal .ensures .0) (a .if1 .left) (consistent e) (c .judge .result)
     (c .judge .ensures (ds a) (lowerAs (direction a) (ds a) (s e)) (upperAs (direction a) (ds a) (s e)) (judgeable j))
-
-returns-3 : tie.Need-returns-3
-returns-3 c =
-    let p = c .before .before .before in
-    let a = p .before .before .before .before in
-    contradicted (ds a) (ps a) (cs a) (direction a) (accepted a) (c .before .answer .given .0 .0) (sym (p .prepare-bounds .ensures .answer) ∙ c .before .answer .given .1)
-
-returns-4 : tie.Need-returns-4
-returns-4 c =
-    let p = c .before .before .before in
-    let a = p .before .before .before .before in
-    refused-atoms (ds a) (ps a) (cs a) (direction a) (accepted a) (c .before .answer2 .given .0 .0) (sym (p .prepare-bounds .ensures .answer) ∙ c .before .answer2 .given .1)
 
 pub check-as-spec : {M : Type 1} → statement M
 check-as-spec =
     tie.close
     (tie.spec
-    (λ c κs. search needs) returns prepare-bounds-requires (λ c. search needs) (λ c. search needs) mirror-bounds-requires
-    (λ c. search needs) judge-requires (λ c. search needs) (λ c. search needs) returns-2 returns-3 returns-4)
+    (λ c κs. search needs) (λ c. search (is-refused, needs)) prepare-bounds-requires (λ c. search needs) (λ c. search needs) mirror-bounds-requires
+    (λ c. search needs) judge-requires (λ c. search needs) (λ c. search needs) returns-2 (λ c. search (contradicted, needs))
+    (λ c. search (refused-atoms, needs)))

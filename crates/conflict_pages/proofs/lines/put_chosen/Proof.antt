@@ -6,11 +6,6 @@ use Rattle.integers.proofs.Ints.{back}
 use Rattle.conflict_pages.proofs.lines.put_chosen.Statement.{statement}
 use Rattle.conflict_pages.proofs.lines.put_chosen.Tie as tie
 
-put-line-requires : tie.Need-put-line-requires
-put-line-requires c κs =
-    let s = c .before .before .before in
-    (omega (arith, s .pre .0), s .pre .1, rw (back (s .fits .earliest)) (s .pre .2), rw (back (s .fits .latest)) (s .pre .3), s .pre .4)
-
 returns : tie.Need-returns
 returns c =
     let line = c .before .before .put-line in
@@ -21,4 +16,4 @@ returns-2 : tie.Need-returns-2
 returns-2 c = (rw (c .if1 .left) (record { text = refl; end = omega arith }), omega arith)
 
 pub put-chosen-spec : {M : Type 1} → statement M
-put-chosen-spec = tie.close (tie.spec put-line-requires (λ c. search needs) returns returns-2)
+put-chosen-spec = tie.close (tie.spec (λ c κs. search needs) (λ c. search needs) returns returns-2)

@@ -7,7 +7,6 @@ use lib.IntN.{pos}
 use lib.ListN.{length, getD}
 use borrow.Author.Needs.{needs}
 use mir.Syntax.{w32}
-use mir.Val.{toZ, ofZ}
 use Rattle.integers.proofs.Ints.{back-of}
 use Rattle.integers.specs.Texts.{bytesOf}
 use Rattle.conflicts.specs.Answers.{flagged}
@@ -30,17 +29,6 @@ abbrev μ-loop : tie.MeasureT-loop
 abbrev begin : tie.In-loop Inv-loop μ-loop → tie.Start Inv-loop μ-loop
 begin c = c .before .before .before .before .before .before .before .before
 
--- the task's range as the machine hands it on
-earliest-is : (c : tie.After-put-chosen-arg3 Inv-loop μ-loop) → let turn = c .before .before .before in
-    let z = getD (begin turn .args .earliest .now) (turn .before .loop .k) (pos 0) in
-    toZ w32 (ofZ w32 z) ≡ z
-earliest-is c = let turn = c .before .before .before in back-of w32 (getD (begin turn .args .earliest .now) (turn .before .loop .k) (pos 0)) (c .put-chosen-arg3 .given)
-
-latest-is : (c : tie.After-put-chosen-arg4 Inv-loop μ-loop) → let turn = c .before .before .before .before in
-    let z = getD (begin turn .args .latest .now) (turn .before .loop .k) (pos 0) in
-    toZ w32 (ofZ w32 z) ≡ z
-latest-is c = let turn = c .before .before .before .before in back-of w32 (getD (begin turn .args .latest .now) (turn .before .loop .k) (pos 0)) (c .put-chosen-arg4 .given)
-
 put-bytes-requires : tie.Need-put-bytes-requires Inv-loop μ-loop
 put-bytes-requires c κs = omega (arith, c .before .before .before .pre .space)
 
@@ -55,11 +43,13 @@ put-chosen-requires c κs =
     let s = begin turn in
     let l = turn .before .loop in
     let heading = turn .before .before .before .before .put-bytes .ensures in
-    let q = turn .loop-test .taken in (
+    let q = turn .loop-test .taken in
+    let from = getD (s .args .earliest .now) (l .k) (pos 0) in
+    let to = getD (s .args .latest .now) (l .k) (pos 0) in (
       omega (arith, l .inv .1, l .inv .2, heading .end, puts-length heading, s .pre .space, q),
       omega (arith, q, s .pre .few),
-      rw (earliest-is (c .before .before .before)) (s .pre .earliest (l .k) q),
-      rw (latest-is (c .before .before)) (s .pre .latest (l .k) q),
+      rw (back-of w32 from (c .before .before .before .put-chosen-arg3 .given)) (s .pre .earliest (l .k) q),
+      rw (back-of w32 to (c .before .before .put-chosen-arg4 .given)) (s .pre .latest (l .k) q),
       s .pre .durations (l .k) q,
     )
 
@@ -69,7 +59,9 @@ loop-again c =
     let turn = put .before .before .before .before .before .before .before in
     let a = begin turn .args in
     let l = turn .before .loop in
-    let w = rw (earliest-is (put .before .before .before .before), latest-is (put .before .before .before)) at (put .put-chosen .ensures .0) in (
+    let from = back-of w32 (getD (a .earliest .now) (l .k) (pos 0)) (put .before .before .before .before .put-chosen-arg3 .given) in
+    let to = back-of w32 (getD (a .latest .now) (l .k) (pos 0)) (put .before .before .before .put-chosen-arg4 .given) in
+    let w = rw (from, to) at (put .put-chosen .ensures .0) in (
       omega (arith, turn .loop-test .taken),
       puts-length w ∙ l .inv .1,
       omega (arith, put .put-chosen .ensures .1, l .inv .2),

@@ -9,7 +9,7 @@ use Rattle.precedences.specs.PredecessorArrays.{startAt}
 use Rattle.precedences.specs.ReasonArrays.{memberAt}
 use Rattle.precedences.specs.Reasons.{bothBounds}
 use Rattle.precedences.proofs.ReasonContract.{none-yet}
-use Rattle.precedences.proofs.Members.{both-more, part, two-of}
+use Rattle.precedences.proofs.Members.{both-more, part}
 use borrow.Author.Needs.{needs}
 use Rattle.precedences.proofs.reason.write_members.Statement.{statement}
 use Rattle.precedences.proofs.reason.write_members.Tie as tie
@@ -29,7 +29,7 @@ write-both-requires c κs =
     let v = startAt (a .lst .now) in
     let m = memberAt (a .members .now) in
     let q : l .j < a .n = omega arith in
-    (λ y. omega (arith, l .inv .1, l .inv .2 .count, part e v m (l .j) (a .n) q, two-of (m (l .j)) (l .j) (e (l .j)) (v (l .j)) y, s .pre .1), omega (arith, s .pre .0))
+    (λ y. omega (arith, l .inv .1, l .inv .2 .count, part e v m (l .j) (a .n) q y, s .pre .1), omega (arith, s .pre .0))
 
 loop-again : tie.Need-loop-again Inv-loop μ-loop
 loop-again c =
