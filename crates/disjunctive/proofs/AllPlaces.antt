@@ -31,3 +31,6 @@ module _ (s : Starts) (is : Is S.the-row s (machS s ∷ [])) (few : s .count ≤
 -- the starts beside the bars' answer have the starts' type too
 pub of-bars : (r : StartsWithBars) → Is B.the-row r (machB r ∷ []) → Is S.the-row (r .starts) (machS (r .starts) ∷ [])
 of-bars r is = LL.owed B.the-type B′.the-laws r _ is .0
+
+-- the needs of a core that lends its arrays
+pub ruleset all-lent = (earliest-there, latest-there, earliest-lent, latest-lent, of-bars)

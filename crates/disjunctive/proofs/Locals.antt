@@ -3,6 +3,7 @@ use Rattle.ranges.proofs.Prelude.{_≡_, refl, sym, ap, _∙_, subst, ℕ, zero
 use Rattle.ranges.proofs.Prelude.{via, fst∗, ftrue, fsep, fat, Heap, Env, Atoms, sem, Given, Item, ‵, ⋆, Goal, Seq, Step, step, _$_, move, drop, fsplit, fjoin, look-in, Opds, stop, load, and-then}
 use Rattle.ranges.proofs.Prelude.{no-more, forget, alloc1, alloc0, init, params1, pass1, pass0, free1, free0, nothing}
 use mathlib.Core.Option.{Option, some, none}
+use mathlib.Core.List.{map, head-eq-of-cons-eq, tail-eq-of-cons-eq, cons-ne-nil}
 use lib.ListN.{getD}
 use mir.Syntax.{tyEnum, ttnil, Step as PStep, Home, Local, local, valueLocal}
 use base.Logic.{wand, comm∗, assoc∗, assoc′, monoL, monoR, emp∗, wandI, allI, guardI}
@@ -10,7 +11,7 @@ use base.Fml.{Fml, froom, fdies}
 use prog.Wp.{Spot, walk}
 use types.Kit.{mean, nth, del, put, pull, fill, allocs, params′, passes, frees}
 use types.Part.{Part}
-use types.Run.{Walks, Finds, Writes}
+use types.Run.{Walks, Finds, Reads, Writes}
 
 abbrev pub Cell : Type 0
 Cell = Ty × ℕ × Option Val
@@ -133,10 +134,26 @@ module _ {M : Type 1} (𝓤 : URA M) (H : Heap 𝓤) (A : Atoms 𝓤) where
   into (c ∷ σ) (suc i) v =
       via 𝓤 (sep 𝓤 ⟦ held c ⟧ (sep 𝓤 ⟦ lying (filled (cellAt σ i) v) ⟧ ⟦ rest σ i ⟧)) (swap ⟦ lying (filled (cellAt σ i) v) ⟧ ⟦ held c ⟧ ⟦ rest σ i ⟧) (monoR 𝓤 ⟦ held c ⟧ (into σ i v))
 
--- a local of a given type and content is found at a number; and values at several
+-- what is found at a number, where a local of a given type and content lies there, and where values lie at several
 abbrev pub nowhere : Ty × ℕ
 nowhere = (tyEnum [] ttnil, zero)
 
+abbrev pub Found : Type 0
+Found = (Ty × ℕ) × Option Cell
+
+abbrev pub found : List (Ty × ℕ) → List Cell → ℕ → Found
+found E σ i = (getD E i nowhere, cellAt σ i)
+
+abbrev pub lies : List (Ty × ℕ) → ℕ → Ty → Option Val → Found
+lies E i τ o = ((τ, getD E i nowhere .1), some (τ, getD E i nowhere .1, o))
+
+abbrev pub all-lie : List (Ty × ℕ) → List ℕ → List Val → List Found
+all-lie E [] [] = []
+all-lie E [] (v ∷ vs) = (nowhere, none) ∷ []
+all-lie E (i ∷ is) [] = []
+all-lie E (i ∷ is) (v ∷ vs) = lies E i (getD E i nowhere .0) (some v) ∷ all-lie E is vs
+
+-- the same with the block of each local, and the type of each that is copied
 abbrev pub At : List (Ty × ℕ) → List Cell → ℕ → Ty → Option Val → Type 0
 At E σ i τ o = (b : ℕ) × (getD E i nowhere ≡ (τ, b)) × (cellAt σ i ≡ some (τ, b, o))
 
@@ -145,6 +162,24 @@ AllAt E σ [] [] = Unit {0}
 AllAt E σ [] (v ∷ vs) = ⊥
 AllAt E σ (i ∷ is) [] = ⊥
 AllAt E σ (i ∷ is) (v ∷ vs) = ((τ : Ty) × At E σ i τ (some v)) × AllAt E σ is vs
+
+all-found : (E : List (Ty × ℕ)) (σ : List Cell) (is : List ℕ) (vs : List Val) → AllAt E σ is vs → map (found E σ) is ≡ all-lie E is vs
+all-found E σ [] [] e = refl
+all-found E σ [] (v ∷ vs) e = absurd e
+all-found E σ (i ∷ is) [] e = absurd e
+all-found E σ (i ∷ is) (v ∷ vs) e =
+    let c = e .0 .1 .2 ∙ sym (ap (λ (l : Ty × ℕ). some (l .0, l .1, some v)) (e .0 .1 .1)) in
+    λ j. (getD E i nowhere, c j) ∷ all-found E σ is vs (e .1) j
+
+-- the k-th of several that are found
+pub at : {us vs : List Found} → us ≡ vs → (k : ℕ) → getD us k (nowhere, none) ≡ getD vs k (nowhere, none)
+at e k = ap (λ (l : List Found). getD l k (nowhere, none)) e
+
+pub env-of : {s s′ : Found} → s ≡ s′ → s .0 ≡ s′ .0
+env-of e = ap (λ (s : Found). s .0) e
+
+pub cell-of : {s s′ : Found} → s ≡ s′ → s .1 ≡ s′ .1
+cell-of e = ap (λ (s : Found). s .1) e
 
 abbrev pub copies : List ℕ → List Operand
 copies [] = []
@@ -197,15 +232,20 @@ module _ {M : Type 1} {𝓤 : URA M} {H : Heap 𝓤} {A : Atoms 𝓤} {K : Type 
     pub finds-local : K → {i : ℕ} {E : Env 𝓤 H} {st : List PStep} {sp : Spot 𝓤 H} {τ : Ty} {b : ℕ} → getD E i nowhere ≡ (τ, b) → Walks K W Γ E (τ, b, zero) st sp → Finds K W Γ E (place i st) sp
     finds-local t {i} {E} {st} e w = record { go = λ Kt h. subst (λ (l : Ty × ℕ). ent 𝓤 (⋆ 𝓤 H A Γ) (walk 𝓤 H E (l .0, l .1, zero) st Kt)) (sym e) (w .go Kt h) }
 
-    -- operands that are copies of locals which hold values
+    pub reads-cells : K → (n : ℕ) (σ : List Cell) (i : ℕ) {τ : Ty} {b : ℕ} {v : Val} → nth 𝓤 H A n Γ ≡ ‵ (cells σ) → cellAt σ i ≡ some (τ, b, some v) → Reads K W Γ τ b zero v
+    reads-cells t n σ i {τ} {b} {v} at-n e = look-in t n (subst (λ (j : Item 𝓤). Part K W j fullShare τ b zero v (λ u. ‵ (cells (store σ i u)))) (sym at-n) (local-at t σ i e))
+
+    -- operands that are copies of locals which hold values; f says what is found at a number
+    pub copied-found : K → {E : Env 𝓤 H} (f : ℕ → Option Cell) → ((i : ℕ) (τ : Ty) (b : ℕ) (v : Val) → f i ≡ some (τ, b, some v) → Reads K W Γ τ b zero v)
+        → (is : List ℕ) (vs : List Val) → map (λ (i : ℕ). (getD E i nowhere, f i)) is ≡ all-lie E is vs → Opds K W Γ E (copies is) vs
+    copied-found t f reads [] [] e = no-more t
+    copied-found t f reads [] (v ∷ vs) e = absurd (cons-ne-nil _ _ (sym e))
+    copied-found t f reads (i ∷ is) [] e = absurd (cons-ne-nil _ _ e)
+    copied-found t f reads (i ∷ is) (v ∷ vs) e =
+        and-then t (load t (finds-local t refl (stop t)) (reads i _ _ _ (cell-of (head-eq-of-cons-eq e)))) (copied-found t f reads is vs (tail-eq-of-cons-eq e))
+
     pub copied : K → (n : ℕ) (σ : List Cell) {E : Env 𝓤 H} (is : List ℕ) (vs : List Val) → nth 𝓤 H A n Γ ≡ ‵ (cells σ) → AllAt E σ is vs → Opds K W Γ E (copies is) vs
-    copied t n σ [] [] at-n e = no-more t
-    copied t n σ [] (v ∷ vs) at-n e = absurd e
-    copied t n σ (i ∷ is) [] at-n e = absurd e
-    copied t n σ (i ∷ is) (v ∷ vs) at-n e =
-        and-then t (load t (finds-local t (e .0 .1 .1) (stop t)) (look-in t n (subst
-        (λ (j : Item 𝓤). Part K W j fullShare (e .0 .0) (e .0 .1 .0) zero v (λ u. ‵ (cells (store σ i u)))) (sym at-n) (local-at t σ i (e .0 .1 .2)))))
-        (copied t n σ is vs at-n (e .1))
+    copied t n σ {E} is vs at-n e = copied-found t (cellAt σ) (λ i τ b v c. reads-cells t n σ i at-n c) is vs (all-found E σ is vs e)
 
   -- the locals are allocated, all at once
   pub allocates : K → {Γ : List (Item 𝓤)} (h : ℕ → Home) (τs : List Ty) {Kt : Env 𝓤 H → Goal 𝓤 H} → ((bs : Blocks τs) → Seq K W (‵ (cells (fresh τs bs)) ∷ Γ) (Kt (envOf (fresh τs bs))))

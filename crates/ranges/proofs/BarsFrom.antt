@@ -19,7 +19,6 @@ use Rattle.integers.specs.WholeNumbers.{eqZ, has}
 use Rattle.integers.proofs.WholeNumbers.{same-eqZ, other-eqZ}
 use Rattle.ranges.specs.declared.range.Range.{Range}
 use Rattle.ranges.specs.Bars.{barsOf, ascends, isInside, barsFit, allBarsFit}
-use Rattle.ranges.specs.Moves.{pastBar, movedOn, beforeBar, movedBack}
 use Rattle.ranges.specs.Ranges.{anyRange}
 use Rattle.ranges.proofs.BarTests.{fit-few}
 use Rattle.ranges.proofs.range.Range as T
@@ -41,21 +40,13 @@ module _ (y : Range) {vs : List Val} (is : Is T.the-row y vs) where
 
 -- the bar at place i, and those past it
 module _ (y : Range) (i : ℕ) (small : i < length (barsOf y)) where
-  here : drop i (barsOf y) ≡ getD (y .barred) i (pos 0) ∷ drop (i + 1) (barsOf y)
+  pub here : drop i (barsOf y) ≡ getD (y .barred) i (pos 0) ∷ drop (i + 1) (barsOf y)
   here = rw (add-one i) (drop-cons (barsOf y) i (pos 0) small
       ∙ ap (λ (b : ℤ). b ∷ drop (suc i) (barsOf y)) (getD-take (y .count) (y .barred) i (pos 0) (omega (arith, length-take (y .count) (y .barred)))))
 
   has-on : (x : ℤ) → has (drop i (barsOf y)) x ≡ eqZ (getD (y .barred) i (pos 0)) x || has (drop (i + 1) (barsOf y)) x
   unfolding has
   has-on x = ap (λ (bs : List ℤ). has bs x) here
-
-  pub moves-on : (l z : ℤ) → movedOn l z (drop i (barsOf y)) ≡ movedOn l (pastBar l (getD (y .barred) i (pos 0)) z) (drop (i + 1) (barsOf y))
-  unfolding movedOn
-  moves-on l z = ap (movedOn l z) here
-
-  pub moves-back : (e z : ℤ) → movedBack e z (drop i (barsOf y)) ≡ beforeBar e (getD (y .barred) i (pos 0)) (movedBack e z (drop (i + 1) (barsOf y)))
-  unfolding movedBack
-  moves-back e z = ap (movedBack e z) here
 
 -- two neighbours
 ascends-on : (y : Range) (i : ℕ) → 1 ≤ i → i < length (barsOf y)
@@ -71,14 +62,6 @@ ascends-on y i one small =
 has-end : (bs : List ℤ) (i : ℕ) (x : ℤ) → length bs ≤ i → has (drop i bs) x ≡ false
 unfolding has
 has-end bs i x h = ap (λ (l : List ℤ). has l x) (drop-of-length-le bs {i = i} h)
-
-pub on-end : (bs : List ℤ) (i : ℕ) (l z : ℤ) → length bs ≤ i → movedOn l z (drop i bs) ≡ z
-unfolding movedOn
-on-end bs i l z h = ap (movedOn l z) (drop-of-length-le bs {i = i} h)
-
-pub back-end : (bs : List ℤ) (i : ℕ) (e z : ℤ) → length bs ≤ i → movedBack e z (drop i bs) ≡ z
-unfolding movedBack
-back-end bs i e z h = ap (movedBack e z) (drop-of-length-le bs {i = i} h)
 
 ascends-short : (bs : List ℤ) → length bs ≤ 1 → ascends bs ≡ true
 unfolding ascends

@@ -7,7 +7,7 @@ use Prim.Native.Nat.{ℕ, suc, _≤_, _<_}
 use native.Mathlib.Omega.{arith}
 use lib.Dec.{leb}
 use lib.IntN.{ℤ, pos}
-use lib.ListN.{length, getD, set, take, drop, replicate, length-append, length-drop, length-map, List·getD-map}
+use lib.ListN.{length, getD, set, take, drop, replicate, length-replicate, length-append, length-drop, length-map, List·getD-map}
 use lib.Seq.{length-take-le, take-all, take-suc, drop-cons, take-at, set-at}
 use borrow.Author.Tests.{le-leb, lt-leb, leb-true, leb-false}
 use Rattle.integers.proofs.Bools.{bool}
@@ -118,20 +118,9 @@ module _ (Said : List ℤ → List ℤ → List ℤ → Type 0) (ys : List Range
 -- what a core says of the ranges taken apart holds of the ranges; where there are too many, the core was passed none
 pub apart : (Said : List ℤ → List ℤ → Type 0) (ys : List Range) (s : Starts) → s ≡ startsOf ys → (TASKS < length (earliests ys) → Said [] [] → Said (earliests ys) (latests ys))
     → Said (take (s .count) (s .earliest)) (take (s .count) (s .latest)) → Said (earliests ys) (latests ys)
-unfolding startsOf
-apart Said ys s e as-none c = ⊎-elim few many (fits-or-not n)
-  where
-    n : ℕ
-    n = length ys
-
-    said : Said (take (startsOf ys .count) (startsOf ys .earliest)) (take (startsOf ys .count) (startsOf ys .latest))
-    said = subst (λ (u : Starts). Said (take (u .count) (u .earliest)) (take (u .count) (u .latest))) e c
-
-    few : n ≤ TASKS → Said (earliests ys) (latests ys)
-    few h = rw (padded-all n (earliests ys) (length-map ys (λ (y : Range). y .earliest)) h, padded-all n (latests ys) (length-map ys (λ (y : Range). y .latest)) h) at said
-
-    many : TASKS < n → Said (earliests ys) (latests ys)
-    many h = as-none (omega (arith, length-map ys (λ (y : Range). y .earliest))) (rw (taken-none n h) at said)
+apart Said ys s e as-none c =
+    stored (λ es ls zs. Said es ls) ys s e (s .count) refl (replicate TASKS (pos 0)) (length-replicate TASKS (pos 0)) c (λ us zs. us) (earliests ys)
+    (length-map ys (λ (y : Range). y .earliest)) refl refl as-none .2
 
 -- starts that have the count of the ranges taken apart fit an array, and the ranges
 pub starts-fit : (ys : List Range) (s r : Starts) → s ≡ startsOf ys → r .count ≡ s .count → (r .count ≤ TASKS) × (r .count ≤ length ys)

@@ -2,8 +2,8 @@
 -- One walk, over how the two are lent, what else is passed, and what is said of an answer.
 use Rattle.ranges.proofs.Prelude.{_≡_, refl, sym, ap, _∙_, subst, ℕ, zero, suc, _≤_, List, [], _∷_, Decided, URA, fullShare, Name, Ty, tyRef, tyInt, w64, imm, mut, local as place, copy, Body}
 use Rattle.ranges.proofs.Prelude.{seq, assign, call, Fn, Val, WT, hasTy, vptr, SProp, ent, sep, emp, id⊢, via, fst∗, ftrue, fsep, fat, flft, GName, Model, Routine, Names, Heap, Calls}
-use Rattle.ranges.proofs.Prelude.{Loops, Env, WpFn, Closed, Atoms, sem, fact, GhostRules, Running, givenOf, tables, FmC, fmOf, Given, Goal, Item, ‵, raw, _⊛_, ⋆, later, await, _$_, _∵_, !, qed, by}
-use Rattle.ranges.proofs.Prelude.{move, drop, use1, rewrite, split, pick, join, fsplit, fjoin, frame, done, runs, Seq, Step, step, look-in, sub, agg, Opds, stop, fld}
+use Rattle.ranges.proofs.Prelude.{Loops, WpFn, Closed, Atoms, sem, fact, GhostRules, Running, givenOf, tables, FmC, fmOf, Given, Goal, Item, ‵, raw, _⊛_, ⋆, later, await, _$_, _∵_, !, qed, by}
+use Rattle.ranges.proofs.Prelude.{move, drop, use1, rewrite, split, pick, join, fsplit, fjoin, frame, done, runs, Seq, Step, step, look-in, sub, agg, stop, fld}
 use Rattle.ranges.proofs.Prelude.{from, load, of-opd, addr, assigns, returns, enter, and-then, no-more, land, usize, yes, RattleType, owns, Is, shows, pointee, RefT, now, length, sliceTy, sliceVal}
 use Rattle.ranges.proofs.Prelude.{plain, nothing, heard, peeks, owned, only, says, calls-at, Ended, Clauses, Contract, Triple, entered, cited}
 use Rattle.ranges.specs.declared.range.Range.{Range}
@@ -11,8 +11,9 @@ use mathlib.Core.Option.{Option, some, none}
 use Rattle.records.specs.declared.record.DisjunctivePropagator.{DisjunctivePropagator}
 use Rattle.ranges.specs.Ranges.{earliests, latests}
 use mathlib.Core.Bool.{cond}
-use mathlib.Core.List.{_++_}
-use mathlib.Core.Logic.{_⊎_, inl, inr}
+use mathlib.Core.List.{_++_, map}
+use mathlib.Core.Logic.{_⊎_, inl, inr, ⊎-elim}
+use Prim.Native.Nat.{_-_}
 use lib.Dec.{eqb}
 use lib.ListN.{getD, take, drop as drop-list}
 use mir.Syntax.{Mutability, Home, valueLocal, memorySlot, erased, tyArray, field, rvOpd, addrOf, aggregate, return}
@@ -22,7 +23,6 @@ use base.Fml.{fdies, Fml}
 use contract.Lifetimes.{Lfts, Shares, toks}
 use contract.Monad.{fact-use}
 use contract.Running.{tablesOf}
-use types.Part.{Part}
 use types.Run.{Reads}
 use types.Kit.{Go, prop, atRet, some as some-of, show, updating, now as at-once, nth, split3}
 use denote.Plain.{uint-makes, uint-tells, uint-lawful}
@@ -42,8 +42,8 @@ use Rattle.disjunctive.proofs.by_value.lent.Symbol as lent-def
 use Rattle.disjunctive.proofs.by_value.lent.Symbol.{name as #lent}
 use Rattle.disjunctive.proofs.by_value.lent.Met as lent-thm
 use Rattle.ranges.proofs.Calls.{ContractOf, calls-by}
-use Rattle.disjunctive.proofs.Locals.{Cell, cells, cellAt, store, stores, passing, envOf, Blocks, fresh, homed, nowhere, env-store, At, copies, Fit, local-at, local-init, stored}
-use Rattle.disjunctive.proofs.Locals.{finds-local, allocates}
+use Rattle.disjunctive.proofs.Locals.{Cell, cells, cellAt, store, stores, passing, envOf, Blocks, fresh, homed, nowhere, env-store, found, lies, all-lie, at, env-of, cell-of, copies, Fit}
+use Rattle.disjunctive.proofs.Locals.{local-at, local-init, stored, finds-local, reads-cells, copied-found, allocates}
 use Rattle.disjunctive.proofs.Locals.{passes-params, frees-locals}
 use Rattle.disjunctive.proofs.open_calls.LentAgain.{lends-again, againTys, lent-again, AgainAt, runs-again}
 use Rattle.disjunctive.proofs.open_calls.ReadOnlyCalls.{Reading}
@@ -136,14 +136,17 @@ reading R τs again operands = record {
 }
 
 -- ---- locals of which two are lent: the entry of the locals is taken apart there, and put together
-abbrev Held : List (Ty × ℕ) → List Cell → List Cell → ℕ → Val → Type 0
-Held E front back i v = (τ : Ty) × (b : ℕ) × (getD E i nowhere ≡ (τ, b)) × ((cellAt front i ≡ some (τ, b, some v)) ⊎ ((k : ℕ) × (cellAt back k ≡ some (τ, b, some v))))
+-- what is found at a number: among those before the two, or among those from k on after them
+abbrev either : Option Cell → Option Cell → Option Cell
+either none d = d
+either (some c) d = some c
 
-abbrev AllHeld : List (Ty × ℕ) → List Cell → List Cell → List ℕ → List Val → Type 0
-AllHeld E front back [] [] = Unit {0}
-AllHeld E front back [] (v ∷ vs) = ⊥
-AllHeld E front back (i ∷ is) [] = ⊥
-AllHeld E front back (i ∷ is) (v ∷ vs) = Held E front back i v × AllHeld E front back is vs
+which : (c d : Option Cell) {e : Cell} → either c d ≡ some e → (c ≡ some e) ⊎ (d ≡ some e)
+which none d h = inr h
+which (some c) d h = inl h
+
+abbrev in-parts : List Cell → List Cell → ℕ → ℕ → Option Cell
+in-parts front back k i = either (cellAt front i) (cellAt back (i - k))
 
 abbrev Between : Ty → ℕ → Ty → ℕ → Val → Ty → ℕ → Fml
 Between τ₁ b₁ τ₂ b₂ v₂ τ₃ b₃ = fsep (fdies τ₁ b₁) (fsep (fsep (fat fullShare τ₂ b₂ zero v₂) (fdies τ₂ b₂)) (fdies τ₃ b₃))
@@ -175,17 +178,10 @@ module _ {M : Type 1} {𝓤 : URA M} {H : Heap 𝓤} {A : Atoms 𝓤} {K : Type 
         move t (2 ∷ 1 ∷ []) $ fjoin t $ fjoin t $ move t (1 ∷ 0 ∷ []) $ cells-together t front _ $ s)
 
   module _ {Γ : List (Item 𝓤)} where
-    reads-cells : K → (n : ℕ) (σ : List Cell) (i : ℕ) {τ : Ty} {b : ℕ} {v : Val} → nth 𝓤 H A n Γ ≡ ‵ (cells σ) → cellAt σ i ≡ some (τ, b, some v) → Reads K W Γ τ b zero v
-    reads-cells t n σ i {τ} {b} {v} at-n e = look-in t n (subst (λ (j : Item 𝓤). Part K W j fullShare τ b zero v (λ u. ‵ (cells (store σ i u)))) (sym at-n) (local-at t σ i e))
-
-    copied-held : K → (n : ℕ) (front back : List Cell) {E : Env 𝓤 H} (is : List ℕ) (vs : List Val) → nth 𝓤 H A n Γ ≡ ‵ (cells front) → nth 𝓤 H A (suc n) Γ ≡ ‵ (cells back)
-        → AllHeld E front back is vs → Opds K W Γ E (copies is) vs
-    copied-held t n front back [] [] f g e = no-more t
-    copied-held t n front back [] (v ∷ vs) f g e = absurd e
-    copied-held t n front back (i ∷ is) [] f g e = absurd e
-    copied-held t n front back (i ∷ is) (v ∷ vs) f g ((τ, b, at, inl c), es) = and-then t (load t (finds-local t at (stop t)) (reads-cells t n front i f c)) (copied-held t n front back is vs f g es)
-    copied-held t n front back (i ∷ is) (v ∷ vs) f g ((τ, b, at, inr (k, c)), es) =
-        and-then t (load t (finds-local t at (stop t)) (reads-cells t (suc n) back k g c)) (copied-held t n front back is vs f g es)
+    reads-parts : K → (n k : ℕ) (front back : List Cell) → nth 𝓤 H A n Γ ≡ ‵ (cells front) → nth 𝓤 H A (suc n) Γ ≡ ‵ (cells back)
+        → (i : ℕ) (τ : Ty) (b : ℕ) (v : Val) → in-parts front back k i ≡ some (τ, b, some v) → Reads K W Γ τ b zero v
+    reads-parts t n k front back f g i τ b v e =
+        ⊎-elim (λ c. reads-cells t n front i f c) (λ c. reads-cells t (suc n) back (i - k) g c) (which (cellAt front i) (cellAt back (i - k)) e)
 
 module _ (D : Plain) where
   abbrev Beside : Lfts (D .lifetimes) → Type 0
@@ -354,10 +350,19 @@ module _ (D : Plain) where
     abbrev back : ℕ → ℕ → List Cell
     back l m = drop-list (local-after 3) (σ₈ l m)
 
-    abbrev Places : Type 0
-    Places = (r : At E σ₀ (local-after 0) P′.mir none) × (c : At E σ₁ (local-after 1) (tyInt w64) none) × (a : At E σ₂ (local-after 2) kept none) × At E σ₃ (local-after 4) referenceTy none
-        × At E (σ₄ (r .0)) (local-after 5) arrayTy none × At E (σ₅ (r .0) (a .0)) (local-after 5) arrayTy (some (vptr (a .0) 0))
-        × At E (σ₅ (r .0) (a .0)) (local-after 1) (tyInt w64) (some (vint w64 n)) × At E (σ₅ (r .0) (a .0)) (local-after 6) rangesTy none
+    abbrev block : ℕ → ℕ
+    block k = getD E (local-after k) nowhere .1
+
+    abbrev Places : ℕ → ℕ → Type 0
+    Places l m = found E σ₀ (local-after 0) ∷ found E σ₁ (local-after 1) ∷ found E σ₂ (local-after 2) ∷ found E σ₃ (local-after 4) ∷ found E (σ₄ l) (local-after 5)
+        ∷ found E (σ₅ l m) (local-after 5) ∷ found E (σ₅ l m) (local-after 1) ∷ found E (σ₅ l m) (local-after 6) ∷ []
+        ≡ lies E (local-after 0) P′.mir none ∷ lies E (local-after 1) (tyInt w64) none ∷ lies E (local-after 2) kept none ∷ lies E (local-after 4) referenceTy none
+        ∷ lies E (local-after 5) arrayTy none ∷ lies E (local-after 5) arrayTy (some (vptr m 0)) ∷ lies E (local-after 1) (tyInt w64) (some (vint w64 n)) ∷ lies E (local-after 6) rangesTy none ∷ []
+
+    -- and what the open call is passed
+    abbrev Passed : ℕ → ℕ → List ℕ → Type 0
+    Passed l m is =
+        map (λ (i : ℕ). (getD E i nowhere, in-parts (front l m) (back l m) (local-after 3) i)) is ≡ all-lie E is (vptr l 0 ∷ sliceVal (m, 0) n ∷ others κs b)
 
     -- once what was lent is back
     abbrev σ₉ : (l c m : ℕ) → DisjunctivePropagator → List Range → List Cell
@@ -365,21 +370,24 @@ module _ (D : Plain) where
 
     -- where the last statements find their locals, with the answer v stored
     abbrev Ends : Lent → List Cell → List Range → Val → Type 0
-    Ends shared σ zs v = (envOf σ ≡ E) × At E σ (local-after 3) (D .answerTy) none × (cellAt (store σ (local-after 3) v) 0 ≡ some (D .resultTy, bs .0, none))
-    Ends changed σ zs v = (envOf σ ≡ E) × At E σ (local-after 3) (D .answerTy) none × At E (store σ (local-after 3) v) (local-after 2) kept (some (machK zs))
-        × At E (store σ (local-after 3) v) copied-to kept none × At E (store (store σ (local-after 3) v) copied-to (machK zs)) (local-after 3) (D .answerTy) (some v)
-        × (cellAt (store (store σ (local-after 3) v) copied-to (machK zs)) 0 ≡ some (D .resultTy, bs .0, none))
+    Ends shared σ zs v = (envOf σ ≡ E)
+        × (found E σ (local-after 3) ∷ found E (store σ (local-after 3) v) 0 ∷ [] ≡ lies E (local-after 3) (D .answerTy) none ∷ lies E 0 (D .resultTy) none ∷ [])
+    Ends changed σ zs v =
+        let ρ = store σ (local-after 3) v in
+        (envOf σ ≡ E)
+        × (found E σ (local-after 3) ∷ found E ρ (local-after 2) ∷ found E ρ copied-to ∷ found E (store ρ copied-to (machK zs)) (local-after 3) ∷ found E (store ρ copied-to (machK zs)) 0 ∷ []
+        ≡ lies E (local-after 3) (D .answerTy) none ∷ lies E (local-after 2) kept (some (machK zs)) ∷ lies E copied-to kept none ∷ lies E (local-after 3) (D .answerTy) (some v)
+        ∷ lies E 0 (D .resultTy) none ∷ [])
 
-    -- where all are found: each is `refl` once the types are written out
-    pub record Laid : Type 0 where
-      pub fits : Fit afterTys (others κs b)
-      pub places : Places
-      pub agains : AgainAt (D .again) (local-after 7) (D .slice κs b) E (σ₆ (places .0 .0) (places .2 .0))
-          × AgainAt (D .again₂) second (D .slice₂ κs b) E (σ₇ (places .0 .0) (places .2 .0))
-      pub apart : σ₈ (places .0 .0) (places .2 .0) ≡ σ₉ (places .0 .0) (places .1 .0) (places .2 .0) h (x .ranges)
-      pub passed : AllHeld E (front (places .0 .0) (places .2 .0)) (back (places .0 .0) (places .2 .0)) (local-after 4 ∷ local-after 6 ∷ D .operands)
-          (vptr (places .0 .0) 0 ∷ sliceVal (places .2 .0, 0) n ∷ others κs b)
-      pub ends : (h′ : DisjunctivePropagator) (zs : List Range) (v : Val) → Ends (D .ranges-as) (σ₉ (places .0 .0) (places .1 .0) (places .2 .0) h′ zs) zs v
+    -- what else is passed fits; and where all are found: each equation is `refl` once the types are written out
+    abbrev Laid : Type 0
+    Laid =
+        let l = block 0 in
+        let c = block 1 in
+        let m = block 2 in
+        Fit afterTys (others κs b) × (AgainAt (D .again) (local-after 7) (D .slice κs b) E (σ₆ l m) × AgainAt (D .again₂) second (D .slice₂ κs b) E (σ₇ l m)) × Places l m
+        × Passed l m (local-after 4 ∷ local-after 6 ∷ D .operands) × (σ₈ l m ≡ σ₉ l c m h (x .ranges))
+        × ((h′ : DisjunctivePropagator) (zs : List Range) (v : Val) → Ends (D .ranges-as) (σ₉ l c m h′ zs) zs v)
 
   abbrev pub Lays : Type 0
   Lays = (κs : Lfts (D .lifetimes)) (b : Beside κs) → Are (typesAt (D .beside) κs) (Ises (typesAt (D .beside) κs)) b (valss (typesAt (D .beside) κs) (D .values κs) b)
@@ -432,27 +440,28 @@ module _ (D : Plain) {M : Type 1} (𝓤 : URA M) (H : Heap 𝓤) (A : Atoms 𝓤
     -- the last statements
     finishes : (w : Lent) → Ends D κs b h x n bs w σ zs v → Decided (hasTy (D .resultTy) (returned w v zs)) × WT (returned w v zs)
         → Seq (Go {0}) W Γ (prop (Kf (returned w v zs))) → Seq (Go {0}) W (‵ (cells (store σ (local-after D 3) v)) ∷ Γ) (runs C Λ (E D κs b h x n bs) (ends-with D w) (atRet (E D κs b h x n bs) Kf))
-    finishes shared (same, at-answer, at-result) wt s =
+    finishes shared (same, e) wt s =
         let σ₁₀ : List Cell = store σ (local-after D 3) v in
-        assigns ! (of-opd ! (load ! (finds-local ! (at-answer .1) (stop !)) (look-in ! 0 (local-at ! σ₁₀ (local-after D 3) (stored σ (local-after D 3) v (at-answer .2))))))
-        (from ! (stop !)) (local-init ! 0 σ₁₀ 0 refl at-result wt) $
-        returns ! (look-in ! 0 (local-at ! (store σ₁₀ 0 v) 0 (stored σ₁₀ 0 v at-result))) $
+        assigns ! (of-opd ! (load ! (finds-local ! (env-of (at e 0)) (stop !)) (look-in ! 0 (local-at ! σ₁₀ (local-after D 3) (stored σ (local-after D 3) v (cell-of (at e 0)))))))
+        (from ! (stop !)) (local-init ! 0 σ₁₀ 0 refl (cell-of (at e 1)) wt) $
+        returns ! (look-in ! 0 (local-at ! (store σ₁₀ 0 v) 0 (stored σ₁₀ 0 v (cell-of (at e 1))))) $
         frees-locals ! (store σ₁₀ 0 v) (env-store σ₁₀ 0 v ∙ (env-store σ (local-after D 3) v ∙ same)) $ s
-    finishes changed (same, at-answer, at-array, at-copy, at-value, at-result) wt s =
+    finishes changed (same, e) wt s =
         let σ₁₀ : List Cell = store σ (local-after D 3) v in
         let σ₁₁ : List Cell = store σ₁₀ (copied-to D) (machK zs) in
         let σ₁₂ : List Cell = store σ₁₁ 0 (returned changed v zs) in
-        assigns ! (of-opd ! (load ! (finds-local ! (at-array .1) (stop !)) (look-in ! 0 (local-at ! σ₁₀ (local-after D 2) (at-array .2))))) (finds-local ! (at-copy .1) (stop !))
-        (local-init ! 0 σ₁₀ (copied-to D) refl (at-copy .2) (kept-typed 𝓤 H A W zs iz)) $
-        assigns ! (agg ! (and-then ! (load ! (finds-local ! (at-value .1) (stop !)) (look-in ! 0 (local-at ! σ₁₁ (local-after D 3) (at-value .2))))
-        (and-then ! (load ! (finds-local ! (at-copy .1) (stop !)) (look-in ! 0 (local-at ! σ₁₁ (copied-to D) (stored σ₁₀ (copied-to D) (machK zs) (at-copy .2))))) (no-more !))))
-        (from ! (stop !)) (local-init ! 0 σ₁₁ 0 refl at-result wt) $
-        returns ! (look-in ! 0 (local-at ! σ₁₂ 0 (stored σ₁₁ 0 (returned changed v zs) at-result))) $
+        assigns ! (of-opd ! (load ! (finds-local ! (env-of (at e 1)) (stop !)) (look-in ! 0 (local-at ! σ₁₀ (local-after D 2) (cell-of (at e 1)))))) (finds-local ! (env-of (at e 2)) (stop !))
+        (local-init ! 0 σ₁₀ (copied-to D) refl (cell-of (at e 2)) (kept-typed 𝓤 H A W zs iz)) $
+        assigns ! (agg ! (and-then ! (load ! (finds-local ! (env-of (at e 3)) (stop !)) (look-in ! 0 (local-at ! σ₁₁ (local-after D 3) (cell-of (at e 3)))))
+        (and-then ! (load ! (finds-local ! (env-of (at e 2)) (stop !)) (look-in ! 0 (local-at ! σ₁₁ (copied-to D) (stored σ₁₀ (copied-to D) (machK zs) (cell-of (at e 2)))))) (no-more !))))
+        (from ! (stop !)) (local-init ! 0 σ₁₁ 0 refl (cell-of (at e 4)) wt) $
+        returns ! (look-in ! 0 (local-at ! σ₁₂ 0 (stored σ₁₁ 0 (returned changed v zs) (cell-of (at e 4))))) $
         frees-locals ! σ₁₂ (env-store σ₁₁ 0 (returned changed v zs) ∙ (env-store σ₁₀ (copied-to D) (machK zs) ∙ (env-store σ (local-after D 3) v ∙ same))) $ s
 
-  answer-place : (w : Lent) (n : ℕ) (bs : Blocks (tys D)) (σ : List Cell) (zs : List Range) (v : Val) → Ends D κs b h x n bs w σ zs v → At (E D κs b h x n bs) σ (local-after D 3) (D .answerTy) none
-  answer-place shared n bs σ zs v e = e .1
-  answer-place changed n bs σ zs v e = e .1
+  answer-place : (w : Lent) (n : ℕ) (bs : Blocks (tys D)) (σ : List Cell) (zs : List Range) (v : Val) → Ends D κs b h x n bs w σ zs v
+      → found (E D κs b h x n bs) σ (local-after D 3) ≡ lies (E D κs b h x n bs) (local-after D 3) (D .answerTy) none
+  answer-place shared n bs σ zs v e = at (e .1) 0
+  answer-place changed n bs σ zs v e = at (e .1) 0
 
   -- what the open call says of the ranges that it was lent is said of those that were given
   module _ (n : ℕ) (is-lent : n ≡ lentOf (x .count)) (whole : length (x .ranges) ≡ RANGES) where
@@ -477,41 +486,43 @@ module _ (D : Plain) {M : Type 1} (𝓤 : URA M) (H : Heap 𝓤) (A : Atoms 𝓤
         qed W (raw (tokens D 𝓤 H A y) ∷ ‵ (owns (Taken D 𝓤 H A κs) a (y .4)) ∷ []) ∵ move ! (1 ∷ []) $ fsplit ! $ drop ! $ fsplit ! $ drop ! $
         enter ! C Λ (function D f) (flat (Taken D 𝓤 H A κs) (y .4)) _ $ allocates ! (homes D) (tys D) (λ bs.
         let first : ℕ → ℕ = local-after D in
-        passes-params ! (D .resultTy) (P′.mir ∷ N′.mir ∷ afterTys D) bs (flat (Taken D 𝓤 H A κs) (y .4)) (th, (tn, laid 0 bs .fits)) $
+        passes-params ! (D .resultTy) (P′.mir ∷ N′.mir ∷ afterTys D) bs (flat (Taken D 𝓤 H A κs) (y .4)) (th, (tn, laid 0 bs .0)) $
         -- [the locals; what else is owned; the tokens]
-        assigns ! (of-opd ! (load ! (from ! (stop !)) (look-in ! 0 (local-at ! (σ₀ D κs b h x 0 bs) 1 refl)))) (finds-local ! (laid 0 bs .places .0 .1) (stop !))
-        (local-init ! 0 (σ₀ D κs b h x 0 bs) (first 0) refl (laid 0 bs .places .0 .2) th) $
+        assigns ! (of-opd ! (load ! (from ! (stop !)) (look-in ! 0 (local-at ! (σ₀ D κs b h x 0 bs) 1 refl)))) (finds-local ! (env-of (at (laid 0 bs .2) 0)) (stop !))
+        (local-init ! 0 (σ₀ D κs b h x 0 bs) (first 0) refl (cell-of (at (laid 0 bs .2) 0)) th) $
         nothing ! $ owned ! usize (Is usize) (uint-makes 𝓤 H A W w64) (x .count) (vint w64 (x .count) ∷ []) count-is $ fjoin ! $ nothing ! $ join ! $ nothing ! $ move ! (1 ∷ 0 ∷ []) $ join ! $
         use1 W (raw (Counted 𝓤 H A .pre (to-count 𝓤 H A (x .count)))) (id⊢ 𝓤 _) $
         calls-by ! fm counting (counts 𝓤) known-lent (to-count 𝓤 H A (x .count))
         (and-then ! (load ! (from ! (fld ! refl (stop !))) (look-in ! 1 (sub ! 0 refl (local-at ! (σ₁ D κs b h x 0 bs) 2 refl)))) (no-more !)) (λ u n _ un.
         move ! (3 ∷ []) $ heard ! (n ≡ lentOf (x .count)) (λ is-lent. drop ! $ drop ! $ drop ! $
         let la : Laid D κs b h x n bs = laid n bs in
-        let pl : Places D κs b h x n bs = la .places in
-        let l : ℕ = pl .0 .0 in
-        let m : ℕ = pl .2 .0 in
+        let l : ℕ = block D κs b h x n bs 0 in
+        let c : ℕ = block D κs b h x n bs 1 in
+        let m : ℕ = block D κs b h x n bs 2 in
+        let pl : Places D κs b h x n bs l m = la .2 in
         let few : n ≤ RANGES = subst (λ (k : ℕ). k ≤ RANGES) (sym is-lent) (lent-fits (x .count)) in
         let wn : Decided (hasTy (tyInt w64) (vint w64 n)) × WT (vint w64 n) = (tt, record { fits = un .1 }) in
-        land ! (finds-local ! (pl .1 .1) (stop !)) (local-init ! 0 (σ₁ D κs b h x n bs) (first 1) refl (pl .1 .2) (uint-lawful 𝓤 H A W w64 .typed n (u ∷ []) un .0)) $
+        land ! (finds-local ! (env-of (at pl 1)) (stop !)) (local-init ! 0 (σ₁ D κs b h x n bs) (first 1) refl (cell-of (at pl 1)) (uint-lawful 𝓤 H A W w64 .typed n (u ∷ []) un .0)) $
         rewrite ! 0 (λ (v : Val). ‵ (cells (store (σ₁ D κs b h x n bs) (first 1) v))) (ap only (uint-tells w64 n (u ∷ []) un)) refl $
-        assigns ! (of-opd ! (load ! (from ! (fld ! refl (stop !))) (look-in ! 0 (sub ! 1 refl (local-at ! (σ₂ D κs b h x n bs) 2 refl))))) (finds-local ! (pl .2 .1) (stop !))
-        (local-init ! 0 (σ₂ D κs b h x n bs) (first 2) refl (pl .2 .2) (kept-typed 𝓤 H A W (x .ranges) in-field)) $
-        assigns ! (addr ! (finds-local ! (pl .0 .1) (stop !))) (finds-local ! (pl .3 .1) (stop !)) (local-init ! 0 (σ₃ D κs b h x n bs) (first 4) refl (pl .3 .2) (tt, tt)) $
-        assigns ! (addr ! (finds-local ! (pl .2 .1) (stop !))) (finds-local ! (pl .4 .1) (stop !)) (local-init ! 0 (σ₄ D κs b h x n bs l) (first 5) refl (pl .4 .2) (tt, tt)) $
-        assigns ! (agg ! (and-then ! (load ! (finds-local ! (pl .5 .1) (stop !)) (look-in ! 0 (local-at ! (σ₅ D κs b h x n bs l m) (first 5) (pl .5 .2))))
-        (and-then ! (load ! (finds-local ! (pl .6 .1) (stop !)) (look-in ! 0 (local-at ! (σ₅ D κs b h x n bs l m) (first 1) (pl .6 .2)))) (no-more !))))
-        (finds-local ! (pl .7 .1) (stop !)) (local-init ! 0 (σ₅ D κs b h x n bs l m) (first 6) refl (pl .7 .2) (tt, (tt, (wn .1, tt)))) $
-        runs-again ! (σ₆ D κs b h x n bs l m) (D .again) (first 7) (D .slice κs b) (la .agains .0) $
-        runs-again ! (σ₇ D κs b h x n bs l m) (D .again₂) (second D) (D .slice₂ κs b) (la .agains .1) $
+        assigns ! (of-opd ! (load ! (from ! (fld ! refl (stop !))) (look-in ! 0 (sub ! 1 refl (local-at ! (σ₂ D κs b h x n bs) 2 refl))))) (finds-local ! (env-of (at pl 2)) (stop !))
+        (local-init ! 0 (σ₂ D κs b h x n bs) (first 2) refl (cell-of (at pl 2)) (kept-typed 𝓤 H A W (x .ranges) in-field)) $
+        assigns ! (addr ! (finds-local ! (env-of (at pl 0)) (stop !))) (finds-local ! (env-of (at pl 3)) (stop !)) (local-init ! 0 (σ₃ D κs b h x n bs) (first 4) refl (cell-of (at pl 3)) (tt, tt)) $
+        assigns ! (addr ! (finds-local ! (env-of (at pl 2)) (stop !))) (finds-local ! (env-of (at pl 4)) (stop !)) (local-init ! 0 (σ₄ D κs b h x n bs l) (first 5) refl (cell-of (at pl 4)) (tt, tt)) $
+        assigns ! (agg ! (and-then ! (load ! (finds-local ! (env-of (at pl 5)) (stop !)) (look-in ! 0 (local-at ! (σ₅ D κs b h x n bs l m) (first 5) (cell-of (at pl 5)))))
+        (and-then ! (load ! (finds-local ! (env-of (at pl 6)) (stop !)) (look-in ! 0 (local-at ! (σ₅ D κs b h x n bs l m) (first 1) (cell-of (at pl 6))))) (no-more !))))
+        (finds-local ! (env-of (at pl 7)) (stop !)) (local-init ! 0 (σ₅ D κs b h x n bs l m) (first 6) refl (cell-of (at pl 7)) (tt, (tt, (wn .1, tt)))) $
+        runs-again ! (σ₆ D κs b h x n bs l m) (D .again) (first 7) (D .slice κs b) (la .1 .0) $
+        runs-again ! (σ₇ D κs b h x n bs l m) (D .again₂) (second D) (D .slice₂ κs b) (la .1 .1) $
         -- [the locals; what else is owned; the tokens]
-        rewrite ! 0 (λ (σ : List Cell). ‵ (cells σ)) (la .apart) refl $
-        lent-apart (front D κs b h x n bs l m) (back D κs b h x n bs l m) P′.mir l (machP h) (tyInt w64) (pl .1 .0) (vint w64 n) kept m (machK (x .ranges)) ! $
+        rewrite ! 0 (λ (σ : List Cell). ‵ (cells σ)) (la .4) refl $
+        lent-apart (front D κs b h x n bs l m) (back D κs b h x n bs l m) P′.mir l (machP h) (tyInt w64) c (vint w64 n) kept m (machK (x .ranges)) ! $
         lends-record ! tt (D .record-as) h l gh (λ ν γ. move ! (3 ∷ []) $ lends-ranges ! tt (D .ranges-as) (x .ranges) n few m in-field (λ μ δ.
         -- [the ranges' token; they; their way back; the record's token; it; its way back; the locals before; those after; their ends; what else is owned; the tokens]
         move ! (1 ∷ 9 ∷ []) $ fjoin ! $ move ! (4 ∷ 0 ∷ []) $ fjoin ! $ move ! (1 ∷ 8 ∷ []) $ join ! $ move ! (3 ∷ 0 ∷ []) $ join ! $ join ! $ nothing ! $ move ! (1 ∷ 0 ∷ []) $ join ! $
         use1 W (raw (Open D 𝓤 H A .pre (to-open n l m ν μ γ δ))) (id⊢ 𝓤 _) $
         calls-at ! fm (Open D 𝓤 H A) known-open (to-open n l m ν μ γ δ)
-        (copied-held ! 3 (front D κs b h x n bs l m) (back D κs b h x n bs l m) (first 4 ∷ first 6 ∷ D .operands) (vptr l 0 ∷ sliceVal (m, 0) n ∷ others D κs b) refl refl (la .passed)) (λ v.
+        (copied-found ! (in-parts (front D κs b h x n bs l m) (back D κs b h x n bs l m) (first 3)) (reads-parts ! 3 (first 3) (front D κs b h x n bs l m) (back D κs b h x n bs l m) refl refl)
+        (first 4 ∷ first 6 ∷ D .operands) (vptr l 0 ∷ sliceVal (m, 0) n ∷ others D κs b) (la .3)) (λ v.
         use1 W (later (some-of (λ (r : D .Answer .Denot). ((‵ (flft (ν ∷ []) fullShare) ⊛ ‵ (flft (μ ∷ []) fullShare) ⊛ raw (tokens D 𝓤 H A y)) ⊛ ‵ (D .Answer .own r (v ∷ [])))
         ⊛ some-of (λ (ws : LastOf D 𝓤 H A (to-open n l m ν μ γ δ .0)). ‵ (last-values D 𝓤 H A (to-open n l m ν μ γ δ .0) ws) ⊛ raw (fact 𝓤 (Answers D 𝓤 H A (to-open n l m ν μ γ δ .0) r ws))))))
         (id⊢ 𝓤 _) $
@@ -522,12 +533,12 @@ module _ (D : Plain) {M : Type 1} (𝓤 : URA M) (H : Heap 𝓤) (A : Atoms 𝓤
         -- [the last ranges; what else is left; the record's token; the ranges' token; the tokens; the ranges' way back; the record's way back; the locals before; those after; their ends]
         move ! (3 ∷ 5 ∷ 0 ∷ []) $ ranges-back ! tt (D .ranges-as) μ m δ n (x .ranges) few in-field (ws .1 .0) (λ zs iz seen-is rest-is.
         move ! (2 ∷ 4 ∷ []) $ record-back ! tt (D .record-as) ν l γ h (λ h′. move ! (0 ∷ 1 ∷ 4 ∷ 5 ∷ 6 ∷ []) $
-        lent-together (front D κs b h x n bs l m) (back D κs b h x n bs l m) P′.mir l (machP h′) (tyInt w64) (pl .1 .0) (vint w64 n) kept m (machK zs) ! $
+        lent-together (front D κs b h x n bs l m) (back D κs b h x n bs l m) P′.mir l (machP h′) (tyInt w64) c (vint w64 n) kept m (machK zs) ! $
         -- [the locals; what else is left; the tokens]
-        let σ : List Cell = σ₉ D κs b h x n bs l (pl .1 .0) m h′ zs in
-        let at : At (E D κs b h x n bs) σ (first 3) (D .answerTy) none = answer-place (D .ranges-as) n bs σ zs v (la .ends h′ zs v) in
-        land ! (finds-local ! (at .1) (stop !)) (local-init ! 0 σ (first 3) refl (at .2) (tp .answer r v is)) $
-        finishes C Λ n bs σ zs iz r v is (D .ranges-as) (la .ends h′ zs v) (tp .typed (D .result r zs) (returned (D .ranges-as) v zs) (tp .made r v is zs iz))
+        let σ : List Cell = σ₉ D κs b h x n bs l c m h′ zs in
+        let e = answer-place (D .ranges-as) n bs σ zs v (la .5 h′ zs v) in
+        land ! (finds-local ! (env-of e) (stop !)) (local-init ! 0 σ (first 3) refl (cell-of e) (tp .answer r v is)) $
+        finishes C Λ n bs σ zs iz r v is (D .ranges-as) (la .5 h′ zs v) (tp .typed (D .result r zs) (returned (D .ranges-as) v zs) (tp .made r v is zs iz))
         (by ! (ends-well (D .result r zs) (returned (D .ranges-as) v zs) (ws .1 .1) (tp .made r v is zs iz)
         (said-of n is-lent whole (seen (D .record-as) h (ws .0)) r (seen (D .ranges-as) (take n (x .ranges)) (ws .1 .0)) zs (seen-beside D κs b (ws .1 .1)) (kept-length zs _ iz) seen-is rest-is
         holds)))))))))))))))

@@ -1,9 +1,9 @@
 -- A `&mut` slice that a function passes on. The MIR lends the slice again, from its own local through two more: of the pointer and of the slice.
-use Rattle.ranges.proofs.Prelude.{_≡_, refl, ℕ, suc, List, [], _∷_, Decided, URA, mut, Ty, tyRef, deref, local as place, copy, Body, seq, assign, Val, WT, hasTy, vptr, Heap, Calls, Loops, Env}
+use Rattle.ranges.proofs.Prelude.{_≡_, refl, ℕ, suc, _<_, _^_, List, [], _∷_, URA, mut, Ty, tyRef, deref, local as place, copy, Body, seq, assign, Val, vptr, Heap, Calls, Loops, Env}
 use Rattle.ranges.proofs.Prelude.{Atoms, Given, Item, ‵, _$_, PostOf as Post, runs, Step, step, look-in, sub, agg, stop, hop, fld, load, addr, assigns, and-then, no-more, sliceTy, sliceVal}
 use mathlib.Core.Option.{Option, some, none}
 use mir.Syntax.{Lifetime, erased, field, addrOf, aggregate}
-use Rattle.disjunctive.proofs.Locals.{Cell, cells, cellAt, store, stores, At, local-at, local-init, finds-local}
+use Rattle.disjunctive.proofs.Locals.{Cell, cells, cellAt, store, stores, found, lies, at, env-of, cell-of, local-at, local-init, finds-local}
 
 -- the slice's local and its elements' type, if there is a slice; n is the first of the two more
 abbrev pub lends-again : Option (ℕ × Ty) → ℕ → Body → Body
@@ -31,18 +31,19 @@ AgainAt none n x E σ = Unit {0}
 AgainAt (some (j, τ)) n x E σ =
     let v : Val = sliceVal (x .0) (x .1) in
     let p : Val = vptr (x .0 .0) (x .0 .1) in
-    (ℓ : Lifetime) × At E σ j (sliceTy (tyRef ℓ mut τ)) (some v) × At E σ n (tyRef erased mut τ) none × At E (store σ n p) j (sliceTy (tyRef ℓ mut τ)) (some v)
-    × At E (store σ n p) n (tyRef erased mut τ) (some p) × At E (store σ n p) (suc n) (sliceTy (tyRef erased mut τ)) none × (Decided (hasTy (sliceTy (tyRef erased mut τ)) v) × WT v)
+    (ℓ : Lifetime) × (found E σ j ∷ found E σ n ∷ found E (store σ n p) j ∷ found E (store σ n p) n ∷ found E (store σ n p) (suc n) ∷ [] ≡ lies E j (sliceTy (tyRef ℓ mut τ)) (some v)
+    ∷ lies E n (tyRef erased mut τ) none ∷ lies E j (sliceTy (tyRef ℓ mut τ)) (some v) ∷ lies E n (tyRef erased mut τ) (some p) ∷ lies E (suc n) (sliceTy (tyRef erased mut τ)) none ∷ [])
+    × (x .1 < 2 ^ 64)
 
 module _ {M : Type 1} {𝓤 : URA M} {H : Heap 𝓤} {A : Atoms 𝓤} {K : Type 0} {W : Given 𝓤 H A} {Γ : List (Item 𝓤)} {C : Calls 𝓤 H} {Λ : Loops 𝓤 H} {E : Env 𝓤 H} {q : Post 𝓤 H} {rest : Body} where
   pub runs-again : K → (σ : List Cell) (o : Option (ℕ × Ty)) (n : ℕ) (x : (ℕ × ℕ) × ℕ) → AgainAt o n x E σ
       → Step K W (‵ (cells (stores σ (lent-again o n x))) ∷ Γ) (runs C Λ E rest q) (‵ (cells σ) ∷ Γ) (runs C Λ E (lends-again o n rest) q)
   runs-again t σ none n x e = step (λ s. s)
-  runs-again t σ (some (j, τ)) n x (ℓ, a₁, a₂, a₃, a₄, a₅, fits) =
+  runs-again t σ (some (j, τ)) n x (ℓ, e, fits) =
       let ρ : List Cell = store σ n (vptr (x .0 .0) (x .0 .1)) in
       step (λ s.
-      assigns t (addr t (finds-local t (a₁ .1) (fld t refl (hop t (look-in t 0 (sub t 0 refl (local-at t σ j (a₁ .2)))) (stop t))))) (finds-local t (a₂ .1) (stop t))
-      (local-init t 0 σ n refl (a₂ .2) (tt, tt)) $
-      assigns t (agg t (and-then t (load t (finds-local t (a₄ .1) (stop t)) (look-in t 0 (local-at t ρ n (a₄ .2))))
-      (and-then t (load t (finds-local t (a₃ .1) (fld t refl (stop t))) (look-in t 0 (sub t 1 refl (local-at t ρ j (a₃ .2))))) (no-more t))))
-      (finds-local t (a₅ .1) (stop t)) (local-init t 0 ρ (suc n) refl (a₅ .2) fits) $ s)
+      assigns t (addr t (finds-local t (env-of (at e 0)) (fld t refl (hop t (look-in t 0 (sub t 0 refl (local-at t σ j (cell-of (at e 0))))) (stop t))))) (finds-local t (env-of (at e 1)) (stop t))
+      (local-init t 0 σ n refl (cell-of (at e 1)) (tt, tt)) $
+      assigns t (agg t (and-then t (load t (finds-local t (env-of (at e 3)) (stop t)) (look-in t 0 (local-at t ρ n (cell-of (at e 3)))))
+      (and-then t (load t (finds-local t (env-of (at e 2)) (fld t refl (stop t))) (look-in t 0 (sub t 1 refl (local-at t ρ j (cell-of (at e 2)))))) (no-more t))))
+      (finds-local t (env-of (at e 4)) (stop t)) (local-init t 0 ρ (suc n) refl (cell-of (at e 4)) (tt, (tt, (record { fits = fits }, tt)))) $ s)

@@ -11,7 +11,7 @@ use mathlib.Core.Option.{Option, some, none}
 use Rattle.records.specs.declared.record.DisjunctivePropagator.{DisjunctivePropagator}
 use Rattle.ranges.specs.Ranges.{earliests, latests}
 use Rattle.ranges.specs.TakenApart.{firstEarliest, firstLatest}
-use mathlib.Core.List.{_++_}
+use mathlib.Core.List.{_++_, map, tail-eq-of-cons-eq}
 use mir.Syntax.{rvOpd, return, valueLocal}
 use base.Logic.{ex, snd∗}
 use contract.Lifetimes.{Lfts, Shares, toks}
@@ -29,8 +29,8 @@ use Rattle.records.proofs.record.DisjunctivePropagator.Laws as P′
 use Rattle.ranges.proofs.starts.Lending.{calls-reader, rangesVal, Reads}
 use Rattle.ranges.proofs.range.Range as T
 use Rattle.ranges.proofs.Calls.{ContractOf, calls-by}
-use Rattle.disjunctive.proofs.Locals.{Cell, store, stores, passing, envOf, Blocks, fresh, locals, env-store, env-stores, env-passing, At, AllAt, copies, Fit, local-at, local-init, stored}
-use Rattle.disjunctive.proofs.Locals.{finds-local, copied, allocates, passes-params, frees-locals}
+use Rattle.disjunctive.proofs.Locals.{Cell, cellAt, store, stores, passing, envOf, Blocks, fresh, locals, env-store, env-stores, env-passing, found, lies, all-lie, at, env-of, cell-of, copies}
+use Rattle.disjunctive.proofs.Locals.{Fit, local-at, local-init, stored, finds-local, reads-cells, copied-found, allocates, passes-params, frees-locals}
 use Rattle.disjunctive.proofs.open_calls.LentAgain.{lends-again, againTys, lent-again, first-kept, AgainAt, runs-again}
 use Rattle.disjunctive.proofs.open_calls.LentRecord.{machP, looks-into, shuts-record}
 use Rattle.disjunctive.proofs.open_calls.StartsReaders.{Reader, Read, readTy, Says, startsIn, barsIn, barsFit, nameOf, routineOf, few, said-of, read-typed, read-met}
@@ -178,13 +178,11 @@ module _ (D : Reading) where
         ∙ (env-store entered-with starts-local w ∙ ap (λ (E′ : List (Ty × ℕ)). (D .answerTy, bs .0) ∷ (referenceTy, bs .1 .0) ∷ (rangesTy, bs .1 .1 .0) ∷ E′)
         (env-passing (fresh afterTys (bs .1 .1 .1)) (others κs b)))))
 
-    -- where the locals are found: each is `refl` once the types are written out
-    pub record Laid : Type 0 where
-      pub fits : Fit afterTys (others κs b)
-      pub starts-at : At E entered-with starts-local (readTy (D .reader)) none
-      pub record-at : (w : Val) → At E (with-starts w) (suc starts-local) P′.mir none
-      pub again-at : (w p : Val) → AgainAt (D .again) (suc (suc starts-local)) (D .slice κs b) E (with-record w p)
-      pub passed-at : (w p : Val) → AllAt E (at-call w p) (suc starts-local ∷ starts-local ∷ D .operands) (p ∷ w ∷ others κs b)
+    -- what else is passed fits; and where the locals are found: one equation, which is `refl` once the types are written out
+    abbrev Laid : Type 0
+    Laid = Fit afterTys (others κs b) × ((w p : Val) → AgainAt (D .again) (suc (suc starts-local)) (D .slice κs b) E (with-record w p))
+        × ((w p : Val) → found E entered-with starts-local ∷ found E (with-starts w) (suc starts-local) ∷ map (found E (at-call w p)) (suc starts-local ∷ starts-local ∷ D .operands)
+        ≡ lies E starts-local (readTy (D .reader)) none ∷ lies E (suc starts-local) P′.mir none ∷ all-lie E (suc starts-local ∷ starts-local ∷ D .operands) (p ∷ w ∷ others κs b))
 
   abbrev pub Lays : Type 0
   Lays = (κs : Lfts (D .lifetimes)) (b : Beside κs) → Are (typesAt (D .beside) κs) (Ises (typesAt (D .beside) κs)) b (valss (typesAt (D .beside) κs) (D .values κs) b)
@@ -243,7 +241,7 @@ module _ (D : Reading) {M : Type 1} (𝓤 : URA M) (H : Heap 𝓤) (A : Atoms �
         let l : Laid D κ′ b (vptr (a .0 .ptr .0) (a .0 .ptr .1)) (rangesVal (a .1 .0)) bs = laid bs in
         let σ₀ : List Cell = entered-with D κ′ b (vptr (a .0 .ptr .0) (a .0 .ptr .1)) (rangesVal (a .1 .0)) bs in
         let n : ℕ = starts-local D in
-        passes-params ! (D .answerTy) (referenceTy D ∷ rangesTy D ∷ afterTys D) bs (flat (Passed D κs) (x .4)) ((tt, tt), (g, l .fits)) $
+        passes-params ! (D .answerTy) (referenceTy D ∷ rangesTy D ∷ afterTys D) bs (flat (Passed D κs) (x .4)) ((tt, tt), (g, l .0)) $
         -- [the locals; the tokens; what is passed]
         move ! (2 ∷ []) $ fsplit ! $ fsplit3 ! $ drop ! $ move ! (2 ∷ []) $ fsplit ! $ move ! (5 ∷ []) $ split ! $ move ! (1 ∷ []) $ split ! $ move ! (0 ∷ 3 ∷ []) $
         -- [the ranges' token; the ranges; the other tokens; the record's token; what else is passed; res; the record's borrow; the locals]
@@ -252,20 +250,21 @@ module _ (D : Reading) {M : Type 1} (𝓤 : URA M) (H : Heap 𝓤) (A : Atoms �
         let σ₁ : List Cell = store σ₀ n w in
         let σ₂ : List Cell = store σ₁ (suc n) (machP h) in
         let σ₃ : List Cell = stores σ₂ (lent-again (D .again) (suc (suc n)) (D .slice κ′ b)) in
-        land ! (finds-local ! (l .starts-at .1) (stop !)) (local-init ! 7 σ₀ n refl (l .starts-at .2) (read-typed 𝓤 H A W (D .reader) s w is₁)) $
+        let e = l .2 w (machP h) in
+        land ! (finds-local ! (env-of (at e 0)) (stop !)) (local-init ! 7 σ₀ n refl (cell-of (at e 0)) (read-typed 𝓤 H A W (D .reader) s w is₁)) $
         -- [what the starts own; the ranges' token; the other tokens; the record's token; what else is passed; res; the record's borrow; the locals]
         move ! (6 ∷ 3 ∷ []) $ looks-into ! tt h (a .0 .ptr .0) (a .0 .ptr .1) (λ q′ gh.
         -- [a share of the record's cell; what it owns; what shuts it; its borrow; what the starts own; the ranges' token; the other tokens; what else is passed; res; the locals]
-        assigns ! (of-opd ! (load ! (from ! (hop ! (look-in ! 9 (local-at ! σ₁ 1 refl)) (stop !))) (look ! 0 refl))) (finds-local ! (l .record-at w .1) (stop !))
-        (local-init ! 9 σ₁ (suc n) refl (l .record-at w .2) (LL.lawful P.the-type P′.the-laws 𝓤 H A W .typed h (machP h ∷ []) gh .0)) $ shuts-record ! tt q′ h (a .0 .ptr .0) (a .0 .ptr .1) $
+        assigns ! (of-opd ! (load ! (from ! (hop ! (look-in ! 9 (local-at ! σ₁ 1 refl)) (stop !))) (look ! 0 refl))) (finds-local ! (env-of (at e 1)) (stop !))
+        (local-init ! 9 σ₁ (suc n) refl (cell-of (at e 1)) (LL.lawful P.the-type P′.the-laws 𝓤 H A W .typed h (machP h ∷ []) gh .0)) $ shuts-record ! tt q′ h (a .0 .ptr .0) (a .0 .ptr .1) $
         -- [the record's token; its borrow; what the starts own; the ranges' token; the other tokens; what else is passed; res; the locals]
-        move ! (7 ∷ []) $ runs-again ! σ₂ (D .again) (suc (suc n)) (D .slice κ′ b) (l .again-at w (machP h)) $
+        move ! (7 ∷ []) $ runs-again ! σ₂ (D .again) (suc (suc n)) (D .slice κ′ b) (l .1 w (machP h)) $
         move ! (3 ∷ 6 ∷ []) $ fjoin ! $ owned ! P.the-row (Is P.the-row) ((LL.makes P.the-type P′.the-plain) 𝓤 H A) h _ gh $ fjoin ! $ move ! (5 ∷ 0 ∷ []) $ join ! $
         use0 W (raw (fact 𝓤 (startsIn (D .reader) s .count ≤ TASKS))) (factI 𝓤 (startsIn (D .reader) s .count ≤ TASKS) (emp 𝓤) (few (D .reader) ys s e₁)) $
         move ! (1 ∷ 0 ∷ []) $ join ! $ use1 W (raw (Core D 𝓤 H A .pre (to-core s w))) (id⊢ 𝓤 _) $
         -- [what the core is passed; the locals; the record's token; its borrow; the ranges' token; res]
         calls-by ! fm (core D) (core-says D 𝓤 H A) known-core (to-core s w)
-        (copied ! 1 σ₃ (suc n ∷ n ∷ D .operands) (machP h ∷ w ∷ others D κ′ b) refl (l .passed-at w (machP h))) (λ v r us is₂.
+        (copied-found ! (cellAt σ₃) (λ i τ l v c. reads-cells ! 1 σ₃ i refl c) (suc n ∷ n ∷ D .operands) (machP h ∷ w ∷ others D κ′ b) (tail-eq-of-cons-eq (tail-eq-of-cons-eq e))) (λ v r us is₂.
         move ! (3 ∷ []) $ heard ! (Said D κ′ h s b r (seen D κ′ b (us .1 .1))) (λ e₂.
         -- [what the answer owns; the other tokens; what is said of what was passed; the locals; the record's token; its borrow; the ranges' token; res]
         land ! (from ! (stop !)) (local-init ! 3 σ₃ 0 refl (first-kept (D .again) (suc n) (D .slice κ′ b) σ₂) (typed r v is₂)) $

@@ -1,7 +1,7 @@
 -- The open calls that store starts have one MIR before the call of the core and one after it, but for the numbers of locals.
 -- Before the call, the ranges are taken apart into two local arrays, and the record is copied. The core is passed the first numbers of the arrays as slices. After the call, what it left is stored.
 -- Local 1 is the reference to the record and local 2 the ranges. The locals after the parameters begin at m, and those after what the core is passed at u.
-use Rattle.ranges.proofs.Prelude.{_≡_, refl, ap, _∙_, List, [], _∷_, ℕ, _≤_, Bool, ℤ, length, URA, fullShare, Ty, tyInt, tyRef, w64, w32, named, mut, imm, local as place, copy, deref, Operand, Name}
+use Rattle.ranges.proofs.Prelude.{_≡_, refl, ap, _∙_, List, [], _∷_, ℕ, _≤_, Bool, ℤ, length, URA, fullShare, Ty, tyInt, tyRef, w64, w32, named, mut, imm, local as place, copy, deref, Name}
 use Rattle.ranges.proofs.Prelude.{Body, seq, assign, call, Val, vptr, SProp, Lft, GName, Share, fat, flft, Memory, Routine, Fun, Heap, Calls, Loops, Env, Atoms, FmC, Given, Item, ‵, _$_, _⊛_, ftrue}
 use Rattle.ranges.proofs.Prelude.{RefT, move, drop, rewrite, whole, sub, look-in, agg, look, init, forget, stop, hop, fld, load, of-opd, addr, assigns, and-then, no-more, land, PostOf as Post, runs}
 use Rattle.ranges.proofs.Prelude.{Seq, Is, pointee, i32, Room, finally, sliceTy, sliceVal, only, Triple, TASKS}
@@ -34,7 +34,7 @@ use Rattle.ranges.proofs.bars.all_bars_fit.Symbol.{name as #all-bars}
 use Rattle.ranges.proofs.starts.take_apart.Symbol.{name as #take-apart}
 use Rattle.ranges.proofs.starts.Lending.{rangesObs, rangesBor, rangesVal, rangesAt, Reads, calls-reader-mut}
 use Rattle.ranges.proofs.starts.LentArrays.{Take, calls-take-mut}
-use Rattle.ranges.proofs.starts.ReadLoop.{within, found}
+use Rattle.ranges.proofs.starts.ReadLoop.{within, found, var}
 use Rattle.ranges.proofs.starts.StoreCalls.{calls-store}
 use Rattle.ranges.proofs.starts.StoreLoop.{Field}
 use Rattle.ranges.proofs.starts.StoreWalk.{Store}
@@ -69,9 +69,6 @@ abbrev wordsTy : Mutability → Ty
 wordsTy k = sliceTy (tyRef erased k (tyInt w32))
 
 -- ---- the MIR
-abbrev var : ℕ → Operand
-var k = copy (place k [])
-
 -- each slice is made in two locals, the pointer's and its own
 abbrev lends-ranges : ℕ → ℕ → Body → Body
 lends-ranges k k′ rest = seq (assign (place k []) (addrOf (place 2 (field 0 ∷ deref T′.mir ∷ [])))) (seq (assign (place k′ []) (aggregate (var k ∷ copy (place 2 (field 1 ∷ [])) ∷ []))) rest)
@@ -98,9 +95,9 @@ module _ {M : Type 1} (𝓤 : URA M) (H : Heap 𝓤) (E : Env 𝓤 H) (l : ℕ �
 
   -- where the locals are found up to the call, with the reference's type and how the core is lent the arrays; and where after it. Each is `refl` once the numbers are given
   abbrev pub Laid : Ty → Mutability → Mutability → Type 0
-  Laid reference ke kl = Has 1 reference × Has 2 rangesTy × Has m tyBool × Has (1 + m) numbers × Has (2 + m) numbers × Has (3 + m) (tyInt w64) × Has (5 + m) (rangeRef imm)
-      × Has (6 + m) (sliceTy (rangeRef imm)) × Has (7 + m) (rangeRef imm) × Has (8 + m) (sliceTy (rangeRef imm)) × Has (9 + m) (arrayRef mut) × Has (10 + m) (arrayRef mut) × Has (11 + m) P′.mir
-      × Has (12 + m) (arrayRef ke) × Has (13 + m) (wordsTy ke) × Has (14 + m) (arrayRef kl) × Has (15 + m) (wordsTy kl)
+  Laid reference ke kl = (Has 1 reference × Has 2 rangesTy × Has m tyBool × Has (1 + m) numbers × Has (2 + m) numbers × Has (3 + m) (tyInt w64)) × (Has (5 + m) (rangeRef imm)
+      × Has (6 + m) (sliceTy (rangeRef imm)) × Has (7 + m) (rangeRef imm) × Has (8 + m) (sliceTy (rangeRef imm)) × Has (9 + m) (arrayRef mut) × Has (10 + m) (arrayRef mut)) × (Has (11 + m) P′.mir
+      × Has (12 + m) (arrayRef ke) × Has (13 + m) (wordsTy ke) × Has (14 + m) (arrayRef kl) × Has (15 + m) (wordsTy kl))
 
   abbrev pub LaidAfter : ℕ → ℕ → Type 0
   LaidAfter u a = Has 2 rangesTy × Has a numbers × Has (3 + m) (tyInt w64) × Has u tyUnit × Has (1 + u) (rangeRef mut) × Has (2 + u) (sliceTy (rangeRef mut)) × Has (3 + u) (arrayRef imm)
@@ -146,25 +143,10 @@ module _ {M : Type 1} {𝓤 : URA M} (κ : Lft) (p : Share) (b o : ℕ) (γ : GN
         → ((n : ℕ) (us vs : List ℤ) → TakenInto ys none-taken none-taken n us vs → (n ≤ TASKS) × (n ≤ length ys) → Is Numbers us (machine us ∷ []) → Is Numbers vs (machine vs ∷ [])
         → Seq K W (Apart n us vs) (runs C Λ E rest q))
         → Seq K W Begun (runs C Λ E (before-core m rest) q)
-    takes-apart {H} {A} {K} {W} t C Λ E fm at-mem run known-bars known-take g gh (
-      reference-at,
-      ranges-at,
-      bars-at,
-      earliest-at,
-      latest-at,
-      count-at,
-      seen-at,
-      all-seen-at,
-      read-at,
-      all-read-at,
-      into-earliest-at,
-      into-latest-at,
-      record-at,
-      earliest-lent-at,
-      first-earliest-at,
-      latest-lent-at,
-      first-latest-at,
-    ) k =
+    takes-apart {H} {A} {K} {W} t C Λ E fm at-mem run known-bars known-take g gh laid k =
+        let (reference-at, ranges-at, bars-at, earliest-at, latest-at, count-at) = laid .0 in
+        let (seen-at, all-seen-at, read-at, all-read-at, into-earliest-at, into-latest-at) = laid .1 in
+        let (record-at, earliest-lent-at, first-earliest-at, latest-lent-at, first-latest-at) = laid .2 in
         let array = array-typed i32 (sint-lawful 𝓤 H A W w32 .typed) TASKS none-taken (machine none-taken ∷ []) zeros .0 in
         -- [the ranges' obs; their borrow; their token; earliest; latest; the record's cell; _1; _2; bars; count; six that are used; the record's copy; four of the slices; …]
         assigns t (addr t (within t ranges-at (fld t refl (hop t (look-in t 7 (sub t 0 refl (whole t))) (stop t))))) (found t seen-at) (init t 10 refl (tt, tt)) $

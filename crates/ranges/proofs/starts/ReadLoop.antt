@@ -14,10 +14,10 @@ use Rattle.ranges.proofs.starts.ReaderWalk.{slice}
 use Rattle.ranges.proofs.range.Range as T
 use Rattle.ranges.proofs.range.Range.Laws as T′
 
-abbrev word : Ty
+abbrev pub word : Ty
 word = tyInt w64
 
-abbrev var : ℕ → Operand
+abbrev pub var : ℕ → Operand
 var k = copy (local k [])
 
 -- the MIR of a turn without its first five statements: what it does once the range is copied

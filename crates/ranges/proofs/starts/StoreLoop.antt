@@ -5,9 +5,9 @@
 -- Assumes what the two walks have: what the called function says, and that the answer is stored in a field of the range.
 use Rattle.ranges.proofs.Prelude
 use Prelude.{_≡_, subst, refl, sym, _∙_, ap, List, [], _∷_, Bool, ℕ, suc, _+_, _<_, _≤_, _*_, _^_, arith, add-one, lit<, Decided, ℤ, pos, length, take, getD, lt-ltb, le-ltb, URA, now, fullShare}
-use Prelude.{Body, loop, Ty, slot, w32, tyInt, tyArray, Name, Operand, seq, call, named, Fn, valueLocal, imm, tyRef, w64, tyBool, tyPtr, deref, field, local, unsigned, copy, int, add, mul, lt}
+use Prelude.{Body, loop, Ty, slot, w32, tyInt, tyArray, Name, seq, call, named, Fn, valueLocal, imm, tyRef, w64, tyBool, tyPtr, deref, field, local, unsigned, copy, int, add, mul, lt}
 use Prelude.{offset, rvOpd, op2, skip, assign, block, cond, exit, return, mut, tyUnit, tnil, tcons, opdUnit, Val, vint, ofZ, vbool, vptr, hasTy, WT, vunit, Table, fields, spell, arr-parts, fshr-bor}
-use Prelude.{SProp, ent, id⊢, froom, fat, Lft, Share, fobs, fauth, flft, fbor, fobor, Heap, Out, Env, afterTurn, Wp, Tables, Calls, Loops, atReturn, afterSeq, afterBlock, Atoms, fact, FmC, Given}
+use Prelude.{SProp, ent, id⊢, froom, fat, Lft, Share, fobs, fauth, flft, fbor, fobor, Heap, Out, Env, afterTurn, Wp, Tables, atReturn, afterSeq, afterBlock, Atoms, fact, FmC, Given}
 use Prelude.{Item, ⋆, ‵, _$_, _∵_, !, qed, by, move, drop, use1, rewrite, raw, join, fjoin, nothing, keep, anyQ, atRet, Room, init, look, store, forget, stop, hop, fld, from, load, lit, of-opd, bin}
 use Prelude.{assigns, assigns-last, stays, leaves-loop, exec, unit-lit, returns, and-then, no-more, land, whole, sub, look-in, owned, heard, only, Is, shows, cellAt, shares, pointee, i32, sint-vals}
 use Prelude.{sint-tells, sint-makes, sint-lawful, row, opens-slice, closes-slice, place, place-is, elem-out, elem-back, others, elem-put, looks-slice, shuts-slice, RefT, Clauses, Contract, Triple}
@@ -20,6 +20,7 @@ use Rattle.ranges.proofs.CountedLoops.{Turn, counts}
 use Rattle.ranges.proofs.LocalCells.{all-die, frees-all}
 use Rattle.ranges.proofs.Calls.{ContractOf, calls-by}
 use Rattle.ranges.proofs.starts.Lending.{mach}
+use Rattle.ranges.proofs.starts.ReadLoop.{word, var}
 use Rattle.ranges.proofs.moves.stored_start as stored-start
 use Rattle.ranges.proofs.range.Range as T
 use Rattle.ranges.proofs.range.Range.Laws as T′
@@ -30,9 +31,6 @@ pub record Field : Type 0 where
   pub new : Range → ℤ → Range
   pub with : List Range → List ℤ → List Range
   pub stores : Stores (λ y z. new y (stored y z)) with
-
-abbrev word : Ty
-word = tyInt w64
 
 abbrev slice : Ty
 slice = sliceTy (tyRef (named 0) mut (pointee (T.the-row .written)))
@@ -48,9 +46,6 @@ abbrev range : Ty
 range = spell table (pointee (T.the-row .written))
 
 -- ---- the MIR that the two functions have in common: a turn, which calls f and stores its answer in field k, and the body
-abbrev var : ℕ → Operand
-var k = copy (local k [])
-
 abbrev pub on : Body
 on = assign (local 4 []) (op2 (add unsigned) (var 4) (int w64 1))
 
@@ -187,15 +182,9 @@ module _ {M : Type 1} (𝓤 : URA M) (H : Heap 𝓤) (A : Atoms 𝓤) (W : Given
     module _ (𝓣 : Tables 𝓤 H) (fm : FmC 𝓤 H (W .laws) (𝓣 .C)) (f : Name) (k : ℕ) (known : Triple 𝓤 (𝓣 .C f) (Moved 𝓤 F H A))
         (puts : Puts 𝓣 k) (fits-new : (y : Range) (z : ℤ) → Is T.the-row y (mach y ∷ []) → Is i32 z (sint-vals w32 z) → Is T.the-row (new y z) (mach (new y z) ∷ []))
         (g : Room T.the-row (length ys)) (g₁ : Room i32 n) (within : n ≤ length ys) (Post : Val → SProp 𝓤) (exits : ent 𝓤 (⋆ 𝓤 H A Had) (Post vunit)) where
-      abbrev C : Calls 𝓤 H
-      C = 𝓣 .C
-
-      abbrev Λ : Loops 𝓤 H
-      Λ = 𝓣 .Λ
-
       -- where the turn ends that leaves the loop
       abbrev AfterStores : Out → SProp 𝓤
-      AfterStores = afterBlock 𝓤 H (afterSeq 𝓤 H (Wp 𝓤 H C Λ En rest (atReturn 𝓤 H En Post)) (atReturn 𝓤 H En Post))
+      AfterStores = afterBlock 𝓤 H (afterSeq 𝓤 H (Wp 𝓤 H (𝓣 .C) (𝓣 .Λ) En rest (atReturn 𝓤 H En Post)) (atReturn 𝓤 H En Post))
 
       number : (z : ℤ) → Is i32 z (sint-vals w32 z) → Decided (hasTy (tyInt w32) (vint w32 (ofZ w32 z))) × WT (vint w32 (ofZ w32 z))
       number z is = sint-lawful 𝓤 H A W w32 .typed z (sint-vals w32 z) is .0
@@ -208,10 +197,10 @@ module _ {M : Type 1} (𝓤 : URA M) (H : Heap 𝓤) (A : Atoms 𝓤) (W : Given
 
       -- range i, with what is stored in it, goes back into its row, and the turn ends
       back : (i : ℕ) (X : SProp 𝓤) → i < n → Is T.the-row (new (old i) (moved i)) (mach (new (old i) (moved i)) ∷ []) → ent 𝓤 (⋆ 𝓤 H A (At (suc i))) X
-          → ent 𝓤 (⋆ 𝓤 H A (Out-of i (new (old i) (moved i)))) (Wp 𝓤 H C Λ En on (afterTurn 𝓤 H X AfterStores))
+          → ent 𝓤 (⋆ 𝓤 H A (Out-of i (new (old i) (moved i)))) (Wp 𝓤 H (𝓣 .C) (𝓣 .Λ) En on (afterTurn 𝓤 H X AfterStores))
       unfolding afterTurn
       back i X small is k =
-          qed W (Out-of i (new (old i) (moved i))) ∵ exec ! C Λ En on (anyQ (afterTurn 𝓤 H X AfterStores)) $
+          qed W (Out-of i (new (old i) (moved i))) ∵ exec ! (𝓣 .C) (𝓣 .Λ) En on (anyQ (afterTurn 𝓤 H X AfterStores)) $
           owned ! T.the-row (Is T.the-row) ((LL.makes T.the-type T′.the-plain) 𝓤 H A) (new (old i) (moved i)) _ is $ move ! (1 ∷ 0 ∷ []) $
           elem-put ! T.the-row fullShare (zs i) i (new (old i) (moved i)) (mach (new (old i) (moved i)) ∷ []) b o (here i small) $
           rewrite ! 0 (λ (us : List Range). ‵ (row T.the-row fullShare us b o)) (stored-more (F .stores) ys es i (omega arith) small) refl $
@@ -226,7 +215,7 @@ module _ {M : Type 1} (𝓤 : URA M) (H : Heap 𝓤) (A : Atoms 𝓤) (W : Given
       more : (i : ℕ) (X : SProp 𝓤) → i < n → ent 𝓤 (⋆ 𝓤 H A (At (suc i))) X → Turn 𝓤 H A W 𝓣 En (turn f k) AfterStores n At (λ _. Unit {0}) i X
       unfolding afterTurn
       more i X small k′ =
-          qed W (At i) ∵ exec ! C Λ En (turn f k) (anyQ (afterTurn 𝓤 H X AfterStores)) $
+          qed W (At i) ∵ exec ! (𝓣 .C) (𝓣 .Λ) En (turn f k) (anyQ (afterTurn 𝓤 H X AfterStores)) $
           assigns ! (bin ! (load ! (from ! (stop !)) (look ! 3 refl)) (load ! (from ! (stop !)) (look ! 16 refl)) tt) (from ! (stop !)) (init ! 4 refl (tt, tt)) $
           rewrite ! 4 (λ (t : Bool). ‵ (fat fullShare tyBool (l 5) 0 (vbool t))) (lt-ltb i n small) refl $
           stays ! (load ! (from ! (stop !)) (look ! 4 refl)) $
@@ -279,22 +268,22 @@ module _ {M : Type 1} (𝓤 : URA M) (H : Heap 𝓤) (A : Atoms 𝓤) (W : Given
       ends : (X : SProp 𝓤) → Turn 𝓤 H A W 𝓣 En (turn f k) AfterStores n At (λ _. Unit {0}) n X
       unfolding afterTurn
       ends X =
-          qed W (At n) ∵ exec ! C Λ En (turn f k) (anyQ (afterTurn 𝓤 H X AfterStores)) $
+          qed W (At n) ∵ exec ! (𝓣 .C) (𝓣 .Λ) En (turn f k) (anyQ (afterTurn 𝓤 H X AfterStores)) $
           assigns ! (bin ! (load ! (from ! (stop !)) (look ! 3 refl)) (load ! (from ! (stop !)) (look ! 16 refl)) tt) (from ! (stop !)) (init ! 4 refl (tt, tt)) $
           rewrite ! 4 (λ (t : Bool). ‵ (fat fullShare tyBool (l 5) 0 (vbool t))) (le-ltb n n (omega arith)) refl $
-          leaves-loop ! (load ! (from ! (stop !)) (look ! 4 refl)) $ exec ! C Λ En rest (atRet En Post) $
+          leaves-loop ! (load ! (from ! (stop !)) (look ! 4 refl)) $ exec ! (𝓣 .C) (𝓣 .Λ) En rest (atRet En Post) $
           assigns ! (of-opd ! (unit-lit !)) (from ! (stop !)) (init ! 17 refl (tt, tt)) $
           move ! (0 ∷ 18 ∷ 19 ∷ 20 ∷ []) $ closes-slice ! tt T.the-row ys (zs n) (sized (take n es)) b o $
           -- [obs; the borrow; the token; the starts; their token; _4; …; _14; _1; _2; _3; _0; the slice's fact; all die]
           returns ! (look ! 19 refl) $ forget ! 5 refl $ forget ! 6 refl $ forget ! 16 refl $ forget ! 17 refl $ forget ! 18 refl $ forget ! 19 refl $
           keep ! (19 ∷ 16 ∷ 17 ∷ 18 ∷ 5 ∷ 6 ∷ 7 ∷ 8 ∷ 9 ∷ 10 ∷ 11 ∷ 12 ∷ 13 ∷ 14 ∷ 15 ∷ 21 ∷ 0 ∷ 1 ∷ 2 ∷ 4 ∷ []) $ frees-all ! En $ by ! exits
 
-      loops : ent 𝓤 (⋆ 𝓤 H A (At 0)) (Wp 𝓤 H C Λ En (loop (turn f k)) AfterStores)
+      loops : ent 𝓤 (⋆ 𝓤 H A (At 0)) (Wp 𝓤 H (𝓣 .C) (𝓣 .Λ) En (loop (turn f k)) AfterStores)
       loops = counts 𝓤 H A W 𝓣 En (turn f k) AfterStores n At (λ _. Unit {0}) (λ i X small _ k′. more i X small (k′ tt)) (λ X _. ends X) tt
 
-      pub walks-on : ent 𝓤 (⋆ 𝓤 H A Begun) (Wp 𝓤 H C Λ En (body f k) (atReturn 𝓤 H En Post))
+      pub walks-on : ent 𝓤 (⋆ 𝓤 H A Begun) (Wp 𝓤 H (𝓣 .C) (𝓣 .Λ) En (body f k) (atReturn 𝓤 H En Post))
       walks-on =
-          qed W Begun ∵ exec ! C Λ En (body f k) (atRet En Post) $
+          qed W Begun ∵ exec ! (𝓣 .C) (𝓣 .Λ) En (body f k) (atRet En Post) $
           assigns ! (of-opd ! (load ! (from ! (fld ! refl (stop !))) (look-in ! 18 (sub ! 1 refl (whole !))))) (from ! (stop !)) (init ! 5 refl (tt, record { fits = g₁ .0 })) $
           assigns ! (of-opd ! (lit ! tt)) (from ! (stop !)) (init ! 6 refl (tt, record { fits = lit< tt })) $
           opens-slice ! tt T.the-row ys b o $ rewrite ! 0 (λ (us : List Range). ‵ (row T.the-row fullShare us b o)) (sym (F .stores .none ys)) refl $

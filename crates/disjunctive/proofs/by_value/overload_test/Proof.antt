@@ -1,5 +1,4 @@
 -- The ranges are read; nothing else is passed.
-use mathlib.Core.Logic.{inr}
 use denote.Enum.Laws as L
 use Rattle.overload_test.proofs.Overload as O
 use Rattle.overload_test.proofs.Overload.Laws as O′
@@ -18,12 +17,5 @@ unfolding code.routine
 overload-test-spec 𝓤 H 𝓜 𝓖 𝓡 =
     reads-by-value 𝓤 H overload-test [] none [] 𝓜 𝓖 𝓡 code.env name lent.name
     (λ r v is. L.lawful O.the-type O′.the-laws 𝓤 H (𝓖 .A) (givenOf 𝓤 H 𝓜 𝓖) tt .typed r _ is .0) ((L.makes O.the-type O′.the-plain) 𝓤 H (𝓖 .A))
-    (λ κs b are h x n bs. record {
-      fits = tt;
-      places = ((_, refl, refl), (_, refl, refl), (_, refl, refl), (_, refl, refl), (_, refl, refl), (_, refl, refl), (_, refl, refl), (_, refl, refl));
-      agains = (tt, tt);
-      apart = refl;
-      passed = ((_, _, refl, inr (1, refl)), ((_, _, refl, inr (3, refl)), tt));
-      ends = λ h′ zs v. (refl, (_, refl, refl), refl);
-    })
+    (λ κs b are h x n bs. (tt, (tt, tt), refl, refl, refl, λ h′ zs v. (refl, refl)))
     (code.unfolded 𝓤 H 𝓜 𝓡) code.calls-disjunctive·by-value·lent lent.routine code.calls-disjunctive·open-calls·overload-test (lent-thm.met 𝓤 H 𝓜 𝓖 𝓡)

@@ -1,5 +1,4 @@
 -- The record and the ranges are lent as `&mut`, and the record comes back unchanged. The posts and the atoms are passed beside them.
-use mathlib.Core.Logic.{inr}
 use mir.Val.{vstruct, ofList}
 use denote.Struct.Laws as LL
 use lib.ListN.{take}
@@ -60,15 +59,8 @@ run-spec 𝓤 H 𝓜 𝓖 𝓡 =
       typed = λ d v is. LL.lawful R.the-type R′.the-laws 𝓤 H (𝓖 .A) W .typed d _ is .0;
       makes = (LL.makes R.the-type R′.the-plain) 𝓤 H (𝓖 .A);
     })
-    (λ κs b are h x n bs. record {
-      fits = ((tt, (tt, (record { fits = are .0 .0 .1 .0 }, tt))), ((tt, (tt, (record { fits = are .1 .0 .0 .1 .0 }, tt))), tt));
-      places = ((_, refl, refl), (_, refl, refl), (_, refl, refl), (_, refl, refl), (_, refl, refl), (_, refl, refl), (_, refl, refl), (_, refl, refl));
-      agains = (
-        (named 0, (_, refl, refl), (_, refl, refl), (_, refl, refl), (_, refl, refl), (_, refl, refl), (tt, (tt, (record { fits = are .0 .0 .1 .0 }, tt)))),
-        (named 1, (_, refl, refl), (_, refl, refl), (_, refl, refl), (_, refl, refl), (_, refl, refl), (tt, (tt, (record { fits = are .1 .0 .0 .1 .0 }, tt)))),
-      );
-      apart = refl;
-      passed = ((_, _, refl, inr (1, refl)), ((_, _, refl, inr (3, refl)), ((_, _, refl, inr (5, refl)), ((_, _, refl, inr (7, refl)), tt))));
-      ends = λ h′ zs v. (refl, (_, refl, refl), (_, refl, refl), (_, refl, refl), (_, refl, refl), refl);
-    })
+    (λ κs b are h x n bs.
+    let p = are .0 .0 .1 .0 in
+    let a = are .1 .0 .0 .1 .0 in
+    (((tt, (tt, (record { fits = p }, tt))), ((tt, (tt, (record { fits = a }, tt))), tt)), ((named 0, refl, p), (named 1, refl, a)), refl, refl, refl, λ h′ zs v. (refl, refl)))
     (code.unfolded 𝓤 H 𝓜 𝓡) code.calls-disjunctive·by-value·lent lent.routine code.calls-disjunctive·open-calls·run (lent-thm.met 𝓤 H 𝓜 𝓖 𝓡)

@@ -146,7 +146,7 @@ module _ {M : Type 1} (𝓤 : URA M) (H : Heap 𝓤) (A : Atoms 𝓤) (W : Given
         keep ! (36 ∷ 37 ∷ 38 ∷ 11 ∷ 12 ∷ 1 ∷ 6 ∷ 7 ∷ 10 ∷ 13 ∷ 15 ∷ 16 ∷ 17 ∷ 18 ∷ 19 ∷ 20 ∷ 21 ∷ 22 ∷ 23 ∷ 24 ∷ 25 ∷ 2 ∷ 3 ∷ 4 ∷ 39 ∷ 40 ∷ 41 ∷ 5 ∷ 8 ∷ 9 ∷ 14 ∷ 26 ∷ 27 ∷ 28 ∷ 29 ∷ 30 ∷ 31
         ∷ 32 ∷ 33 ∷ 34 ∷ 35 ∷ []) $
         takes-apart κ₁ q₁ b₁ o₁ γ₁ ys l 5 _ fullShare b o h reference mut imm
-        ! C Λ (located locals l) fm at-mem run known-bars known-take g gh (refl, refl, refl, refl, refl, refl, refl, refl, refl, refl, refl, refl, refl, refl, refl, refl, refl)
+        ! C Λ (located locals l) fm at-mem run known-bars known-take g gh ((refl, refl, refl, refl, refl, refl), (refl, refl, refl, refl, refl, refl), (refl, refl, refl, refl, refl))
         (λ n us vs e few gu gv.
         -- the posts and the atoms are passed on for good
         assigns ! (addr ! (from ! (fld ! refl (hop ! (look-in ! 28 (sub ! 0 refl (whole !))) (stop !))))) (from ! (stop !)) (init ! 31 refl (tt, tt)) $

@@ -120,7 +120,7 @@ module _ {M : Type 1} (𝓤 : URA M) (H : Heap 𝓤) (A : Atoms 𝓤) (W : Given
         keep ! (35 ∷ 36 ∷ 37 ∷ 10 ∷ 11 ∷ 0 ∷ 5 ∷ 6 ∷ 9 ∷ 12 ∷ 14 ∷ 15 ∷ 16 ∷ 17 ∷ 18 ∷ 19 ∷ 20 ∷ 21 ∷ 22 ∷ 23 ∷ 24 ∷ 1 ∷ 2 ∷ 38 ∷ 39 ∷ 40 ∷ 4 ∷ 7 ∷ 8 ∷ 13 ∷ 25 ∷ 26 ∷ 27 ∷ 28 ∷ 29 ∷ 30 ∷ 31
         ∷ 32 ∷ 33 ∷ 34 ∷ []) $
         takes-apart κ₁ q₁ b₁ o₁ γ₁ ys l 5 _ q′ b o h reference imm mut
-        ! C Λ (located locals l) fm at-mem run known-bars known-take g gh (refl, refl, refl, refl, refl, refl, refl, refl, refl, refl, refl, refl, refl, refl, refl, refl, refl)
+        ! C Λ (located locals l) fm at-mem run known-bars known-take g gh ((refl, refl, refl, refl, refl, refl), (refl, refl, refl, refl, refl, refl), (refl, refl, refl, refl, refl))
         (λ n us vs e few gu gv.
         -- the posts and the atoms are passed on for good
         assigns ! (addr ! (from ! (fld ! refl (hop ! (look-in ! 27 (sub ! 0 refl (whole !))) (stop !))))) (from ! (stop !)) (init ! 30 refl (tt, tt)) $

@@ -6,11 +6,7 @@ use Rattle.ranges.proofs.BarTests.{fit-none, fit-many}
 use Rattle.ranges.proofs.bars.bars_fit.Statement.{statement}
 use Rattle.ranges.proofs.bars.bars_fit.Tie as tie
 
-returns : tie.Need-returns
-returns c = sym (fit-none (c .before .before .args .range) (c .if1 .taken))
-
-returns-2 : tie.Need-returns-2
-returns-2 c = sym (fit-many (c .before .before .before .before .args .range) (omega arith))
-
 pub bars-fit-spec : {M : Type 1} → statement M
-bars-fit-spec = tie.close (tie.spec returns returns-2 (λ c κs. search needs) (λ c. search needs))
+bars-fit-spec = tie.close (tie.spec
+    (λ c. sym (fit-none (c .before .before .args .range) (c .if1 .taken))) (λ c. sym (fit-many (c .before .before .before .before .args .range) (omega arith)))
+    (λ c κs. search needs) (λ c. search needs))

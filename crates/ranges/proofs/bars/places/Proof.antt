@@ -5,11 +5,7 @@ use Rattle.ranges.proofs.BarsFrom.{bars-length, bars-full}
 use Rattle.ranges.proofs.bars.places.Statement.{statement}
 use Rattle.ranges.proofs.bars.places.Tie as tie
 
-returns : tie.Need-returns
-returns c = let s = c .before .before in sym (bars-length (s .args .range) (s .good .0) (omega arith))
-
-returns-2 : tie.Need-returns-2
-returns-2 c = let s = c .before .before in sym (bars-full (s .args .range) (s .good .0) (omega arith))
-
 pub places-spec : {M : Type 1} → statement M
-places-spec = tie.close (tie.spec returns returns-2)
+places-spec = tie.close (tie.spec
+    (λ c. let s = c .before .before in sym (bars-length (s .args .range) (s .good .0) (omega arith)))
+    (λ c. let s = c .before .before in sym (bars-full (s .args .range) (s .good .0) (omega arith))))

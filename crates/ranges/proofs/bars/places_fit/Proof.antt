@@ -48,21 +48,6 @@ loop-holds c =
     let s = c .before .before .before in
     (omega arith, sym (fit-first (s .args .t1) (omega (arith, s .pre)) (omega (arith, all s, s .pre)) ∙ and-is _ _ (sym (first (c .before)) ∙ not-false _ (c .if1 .left))))
 
-sub-follows : tie.Need-sub-follows Inv-loop μ-loop
-sub-follows c = c .before .loop .inv .0
-
-mul-follows : tie.Need-mul-follows Inv-loop μ-loop
-mul-follows c = record { fits = omega (arith, c .before .before .before .before .before .pre) }
-
-element-copy-out-follows : tie.Need-element-copy-out-follows Inv-loop μ-loop
-element-copy-out-follows c = omega (arith, c .before .before .before .before .before .pre)
-
-mul-follows-2 : tie.Need-mul-follows-2 Inv-loop μ-loop
-mul-follows-2 c = record { fits = omega (arith, c .before .before .before .before .before .before .pre) }
-
-element-copy-out-follows-2 : tie.Need-element-copy-out-follows-2 Inv-loop μ-loop
-element-copy-out-follows-2 c = omega (arith, c .before .before .before .before .before .before .pre)
-
 -- what is left from the next place on
 abbrev rest : tie.After-follows Inv-loop μ-loop → Bool
 rest c = fitFrom (c .before .before .before .before .before .before .before .before .args .t1) (c .before .before .before .before .loop .i + 1)
@@ -89,5 +74,6 @@ pub places-fit-spec : {M : Type 1} → statement M
 places-fit-spec =
     tie.close
     (tie.spec
-    Inv-loop μ-loop (λ c. search needs) (λ c κs. search needs) returns loop-holds sub-follows mul-follows element-copy-out-follows mul-follows-2 element-copy-out-follows-2
+    Inv-loop μ-loop (λ c. search needs) (λ c κs. search needs) returns loop-holds (λ c. search needs)
+    (λ c. search needs) (λ c. search needs) (λ c. search needs) (λ c. search needs)
     (λ c κs. search needs) returns-2 (λ c. search needs) (λ c. search needs) loop-again returns-3)

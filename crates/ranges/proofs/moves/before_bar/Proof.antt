@@ -15,9 +15,6 @@ above c = let s = c .before .before in omega (ints, back (s .fits .start), back 
 next : (c : tie.Then2) → SFits w32 (c .before .before .args .start +ℤ negsuc 0)
 next c = let s = c .before .before in one-back (s .args .start) (s .args .earliest) (s .fits .start) (s .fits .earliest) (above c)
 
-sub-result : tie.Need-sub-result
-sub-result c = rw (back (c .before .before .fits .start)) (next c)
-
 returns : tie.Need-returns
 returns c = let s = c .before .before in goes (s .args .bar) (s .fits .start) _ (negsuc 0) (s .fits .bar) (c .before .if1 .taken) (lt-ltZ _ _ (above c)) (next c)
 
@@ -27,8 +24,6 @@ returns-2 c =
     let h : s .args .start ≤ℤ s .args .earliest = omega (ints, back (s .fits .start), back (s .fits .earliest)) in
     stays (s .args .bar) (s .fits .start) _ (negsuc 0) (s .fits .bar) (c .before .if1 .taken) (le-ltZ _ _ h)
 
-returns-3 : tie.Need-returns-3
-returns-3 c = meets-no-bar (c .before .args .bar) (c .before .fits .start) _ (negsuc 0) (c .if1 .left)
-
 pub before-bar-spec : {M : Type 1} → statement M
-before-bar-spec = tie.close (tie.spec sub-result returns returns-2 returns-3)
+before-bar-spec = tie.close (tie.spec (λ c. rw (back (c .before .before .fits .start)) (next c)) returns returns-2
+    (λ c. meets-no-bar (c .before .args .bar) (c .before .fits .start) _ (negsuc 0) (c .if1 .left)))

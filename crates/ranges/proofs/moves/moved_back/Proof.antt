@@ -3,7 +3,7 @@ use mathlib.Core.Path.{_≡_, sym, ap, _∙_}
 use Prim.Native.Nat.{ℕ, _+_, _-_, _≤_}
 use native.Mathlib.Omega.{arith}
 use lib.IntN.{ℤ, pos}
-use lib.ListN.{length, getD, drop}
+use lib.ListN.{length, getD, drop, drop-of-length-le}
 use mir.Syntax.{w32}
 use mir.Val.{toZ, ofZ}
 use borrow.Author.Needs.{needs}
@@ -11,7 +11,7 @@ use Rattle.integers.specs.Limits.{BARS}
 use Rattle.integers.proofs.Ints.{back, back-of}
 use Rattle.ranges.specs.Bars.{barsOf}
 use Rattle.ranges.specs.Moves.{beforeBar, movedBack}
-use Rattle.ranges.proofs.BarsFrom.{bars-fewer, moves-back, back-end}
+use Rattle.ranges.proofs.BarsFrom.{bars-fewer, here}
 use Rattle.ranges.proofs.moves.moved_back.Statement.{statement}
 use Rattle.ranges.proofs.moves.moved_back.Tie as tie
 
@@ -26,15 +26,13 @@ few : (c : tie.Start Inv-loop μ-loop) → length (barsOf (c .args .t1)) ≤ BAR
 few c = bars-fewer (c .args .t1) (c .good .0)
 
 loop-holds : tie.Need-loop-holds Inv-loop μ-loop
-loop-holds c = let y = c .before .args .t1 in (omega (arith, c .places .ensures), sym (back-end (barsOf y) (c .places .result) (y .earliest) _ (omega (arith, c .places .ensures))))
-
-mul-before-bar : tie.Need-mul-before-bar Inv-loop μ-loop
-mul-before-bar c = record { fits = omega (arith, few (c .before .before .before .before)) }
-
-element-copy-out-before-bar : tie.Need-element-copy-out-before-bar Inv-loop μ-loop
-element-copy-out-before-bar c = omega (arith, few (c .before .before .before .before))
+unfolding movedBack
+loop-holds c =
+    let y = c .before .args .t1 in
+    (omega (arith, c .places .ensures), sym (ap (movedBack (y .earliest) _) (drop-of-length-le (barsOf y) {i = c .places .result} (omega (arith, c .places .ensures)))))
 
 loop-again : tie.Need-loop-again Inv-loop μ-loop
+unfolding movedBack
 loop-again c =
     let s = c .before .before .before .before .before .before in
     let l = c .before .before .before .before .loop in
@@ -48,7 +46,7 @@ loop-again c =
     back-of w32 (c .before-bar .result) (c .before-bar .ok) ∙ c .before-bar .ensures
     ∙ ap (λ (z : ℤ). beforeBar z (toZ w32 (ofZ w32 bar)) at) (back-of w32 (y .earliest) (c .before .before .struct-told .given .0 .1))
     ∙ ap (λ (z : ℤ). beforeBar (y .earliest) z at) (back-of w32 bar (c .before .before-bar-arg .given)) in
-    let on = moves-back y i (omega arith) (y .earliest) start in
+    let on = ap (movedBack (y .earliest) start) (here y i (omega arith)) in
     (omega arith, r ∙ ap (beforeBar (y .earliest) bar) (l .inv .1 ∙ ap (λ (k : ℕ). movedBack (y .earliest) start (drop k (barsOf y))) e) ∙ sym on)
 
 returns : tie.Need-returns Inv-loop μ-loop
@@ -63,5 +61,6 @@ pub moved-back-spec : {M : Type 1} → statement M
 moved-back-spec =
     tie.close
     (tie.spec
-    Inv-loop μ-loop (λ c κs. search needs) loop-holds (λ c. search needs) mul-before-bar element-copy-out-before-bar
+    Inv-loop μ-loop (λ c κs. search needs) loop-holds (λ c. search needs)
+    (λ c. record { fits = omega (arith, few (c .before .before .before .before)) }) (λ c. omega (arith, few (c .before .before .before .before)))
     (λ c κs. search needs) (λ c. search needs) loop-again returns)

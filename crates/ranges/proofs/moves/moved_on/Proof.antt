@@ -3,7 +3,7 @@ use mathlib.Core.Path.{_≡_, refl, sym, ap, _∙_}
 use Prim.Native.Nat.{_+_, _-_, _≤_}
 use native.Mathlib.Omega.{arith}
 use lib.IntN.{ℤ, pos}
-use lib.ListN.{length, getD, drop}
+use lib.ListN.{length, getD, drop, drop-of-length-le}
 use mir.Syntax.{w32}
 use mir.Val.{toZ, ofZ}
 use borrow.Author.Needs.{needs}
@@ -11,7 +11,7 @@ use Rattle.integers.specs.Limits.{BARS}
 use Rattle.integers.proofs.Ints.{back, back-of}
 use Rattle.ranges.specs.Bars.{barsOf}
 use Rattle.ranges.specs.Moves.{pastBar, movedOn}
-use Rattle.ranges.proofs.BarsFrom.{bars-fewer, moves-on, on-end}
+use Rattle.ranges.proofs.BarsFrom.{bars-fewer, here}
 use Rattle.ranges.proofs.moves.moved_on.Statement.{statement}
 use Rattle.ranges.proofs.moves.moved_on.Tie as tie
 
@@ -25,16 +25,8 @@ abbrev μ-loop : tie.MeasureT-loop
 few : (c : tie.Start Inv-loop μ-loop) → length (barsOf (c .args .t1)) ≤ BARS
 few c = bars-fewer (c .args .t1) (c .good .0)
 
-loop-holds : tie.Need-loop-holds Inv-loop μ-loop
-loop-holds c = refl
-
-mul-past-bar : tie.Need-mul-past-bar Inv-loop μ-loop
-mul-past-bar c = record { fits = omega (arith, c .before .before .before .places .ensures, few (c .before .before .before .before)) }
-
-element-copy-out-past-bar : tie.Need-element-copy-out-past-bar Inv-loop μ-loop
-element-copy-out-past-bar c = omega (arith, c .before .before .before .places .ensures, few (c .before .before .before .before))
-
 loop-again : tie.Need-loop-again Inv-loop μ-loop
+unfolding movedOn
 loop-again c =
     let s = c .before .before .before .before .before .before in
     let l = c .before .before .before .before .loop in
@@ -45,19 +37,23 @@ loop-again c =
     back-of w32 (c .past-bar .result) (c .past-bar .ok) ∙ c .past-bar .ensures
     ∙ ap (λ (z : ℤ). pastBar z (toZ w32 (ofZ w32 bar)) at) (back-of w32 (y .latest) (c .before .before .struct-told .given .1 .0 .1))
     ∙ ap (λ (z : ℤ). pastBar (y .latest) z at) (back-of w32 bar (c .before .past-bar-arg .given)) in
-    let on = moves-on y (l .i) (omega (arith, c .before .before .before .before .before .places .ensures)) (y .latest) at in
+    let on = ap (movedOn (y .latest) at) (here y (l .i) (omega (arith, c .before .before .before .before .before .places .ensures))) in
     ap (λ (z : ℤ). movedOn (y .latest) z (drop (l .i + 1) (barsOf y))) r ∙ sym on ∙ l .inv
 
 returns : tie.Need-returns Inv-loop μ-loop
+unfolding movedOn
 returns c =
     let s = c .before .before .before in
     let l = c .before .loop in
     let y = s .args .t1 in
-    sym (on-end (barsOf y) (l .i) (y .latest) (toZ w32 (l .at)) (omega (arith, c .before .before .places .ensures))) ∙ l .inv ∙ ap (λ (z : ℤ). movedOn (y .latest) z (barsOf y)) (back (s .fits .start))
+    let none = drop-of-length-le (barsOf y) {i = l .i} (omega (arith, c .before .before .places .ensures)) in
+    sym (ap (movedOn (y .latest) (toZ w32 (l .at))) none) ∙ l .inv ∙ ap (λ (z : ℤ). movedOn (y .latest) z (barsOf y)) (back (s .fits .start))
 
 pub moved-on-spec : {M : Type 1} → statement M
 moved-on-spec =
     tie.close
     (tie.spec
-    Inv-loop μ-loop (λ c κs. search needs) loop-holds mul-past-bar element-copy-out-past-bar (λ c κs. search needs)
+    Inv-loop μ-loop (λ c κs. search needs) (λ c. refl)
+    (λ c. record { fits = omega (arith, c .before .before .before .places .ensures, few (c .before .before .before .before)) })
+    (λ c. omega (arith, c .before .before .before .places .ensures, few (c .before .before .before .before))) (λ c κs. search needs)
     (λ c. search needs) (λ c. search needs) loop-again returns)

@@ -15,9 +15,6 @@ below c = let s = c .before .before in omega (ints, back (s .fits .start), back 
 next : (c : tie.Then2) → SFits w32 (c .before .before .args .start +ℤ pos 1)
 next c = let s = c .before .before in one-on (s .args .start) (s .args .latest) (s .fits .start) (s .fits .latest) (below c)
 
-add-result : tie.Need-add-result
-add-result c = rw (back (c .before .before .fits .start)) (next c)
-
 returns : tie.Need-returns
 returns c = let s = c .before .before in goes (s .args .bar) (s .fits .start) _ (pos 1) (s .fits .bar) (c .before .if1 .taken) (lt-ltZ _ _ (below c)) (next c)
 
@@ -27,8 +24,6 @@ returns-2 c =
     let h : s .args .latest ≤ℤ s .args .start = omega (ints, back (s .fits .start), back (s .fits .latest)) in
     stays (s .args .bar) (s .fits .start) _ (pos 1) (s .fits .bar) (c .before .if1 .taken) (le-ltZ _ _ h)
 
-returns-3 : tie.Need-returns-3
-returns-3 c = meets-no-bar (c .before .args .bar) (c .before .fits .start) _ (pos 1) (c .if1 .left)
-
 pub past-bar-spec : {M : Type 1} → statement M
-past-bar-spec = tie.close (tie.spec add-result returns returns-2 returns-3)
+past-bar-spec = tie.close (tie.spec (λ c. rw (back (c .before .before .fits .start)) (next c)) returns returns-2
+    (λ c. meets-no-bar (c .before .args .bar) (c .before .fits .start) _ (pos 1) (c .if1 .left)))

@@ -5,11 +5,5 @@ use Rattle.ranges.proofs.TakenApart.{taken-all, taken-none}
 use Rattle.ranges.proofs.starts.fitting.Statement.{statement}
 use Rattle.ranges.proofs.starts.fitting.Tie as tie
 
-returns : tie.Need-returns
-returns c = sym (taken-all (c .before .args .n) (omega arith))
-
-returns-2 : tie.Need-returns-2
-returns-2 c = sym (taken-none (c .before .args .n) (omega arith))
-
 pub fitting-spec : {M : Type 1} → statement M
-fitting-spec = tie.close (tie.spec returns returns-2)
+fitting-spec = tie.close (tie.spec (λ c. sym (taken-all (c .before .args .n) (omega arith))) (λ c. sym (taken-none (c .before .args .n) (omega arith))))

@@ -23,7 +23,7 @@ use Rattle.ranges.proofs.LocalRows.{Numbers, numbers, opens-row, closes
 use Rattle.ranges.proofs.ValueCalls.{Computes, calls-computing}
 use Rattle.ranges.proofs.starts.Lending.{mach, rangesVal}
 use Rattle.ranges.proofs.starts.ReaderWalk.{slice}
-use Rattle.ranges.proofs.starts.ReadLoop.{Loop, Typed, past-copy, Before, Copied, AfterReads, Acts, Ends, goes-on, reads-all}
+use Rattle.ranges.proofs.starts.ReadLoop.{word, Loop, Typed, past-copy, Before, Copied, AfterReads, Acts, Ends, goes-on, reads-all}
 use Rattle.ranges.proofs.range.Range as T
 use Rattle.ranges.proofs.range.Range.Laws as T′
 use Rattle.ranges.proofs.starts.fitting.Symbol as fitting-def
@@ -42,9 +42,6 @@ Fitting n r = r ≡ taken n
 -- the type of a local, spelled as the function's MIR spells it. With another spelling, antt computes both sides whole where the walk meets the body
 abbrev range : Ty
 range = spell table (pointee (T.the-row .written))
-
-abbrev word : Ty
-word = tyInt w64
 
 abbrev array : ℕ → Ty
 array k = tyRef (named k) mut numbers
@@ -216,13 +213,8 @@ module _ {M : Type 1} (𝓤 : URA M) (H : Heap 𝓤) (A : Atoms 𝓤) (W : Given
     exits : ent 𝓤 (⋆ 𝓤 H A Had) (Post (vint w64 n))
     exits =
         qed W Had ∵
-        suffices ! _ (ends-at 𝓤 H A f.ended stayed (f.clauses 𝓤 H A at-mem run) W (((κ, (κ₁, (κ₂, tt))), (q, (q₁, (q₂, tt))), tt, arg, at), tt) (vint w64 n) n (tt, (es n, (ls n, tt))) (
-          tt,
-          (
-            tt,
-            (tt, tt),
-          ),
-        )) $
+        suffices ! _ (ends-at 𝓤 H A f.ended stayed (f.clauses 𝓤 H A at-mem run) W (((κ, (κ₁, (κ₂, tt))), (q, (q₁, (q₂, tt))), tt, arg, at), tt) (vint w64 n) n
+        (tt, (es n, (ls n, tt))) (tt, (tt, (tt, tt)))) $
         says ! (record { count = refl; earliest = refl; latest = refl }) $
         nothing ! $ move ! (7 ∷ 0 ∷ []) $ join ! $ move ! (4 ∷ 0 ∷ []) $ join ! $ move ! (1 ∷ 0 ∷ []) $ join ! $ frame ! $
         -- [what is had of earliest; of latest]

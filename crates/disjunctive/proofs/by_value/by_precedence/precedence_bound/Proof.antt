@@ -1,5 +1,4 @@
 -- The task's number is passed beside the record and the ranges.
-use mathlib.Core.Logic.{inl, inr}
 use denote.Enum.Laws as L
 use Rattle.precedences.proofs.reason.BoundAbove as O
 use Rattle.precedences.proofs.reason.BoundAbove.Laws as O′
@@ -18,12 +17,5 @@ unfolding code.routine
 precedence-bound-spec 𝓤 H 𝓜 𝓖 𝓡 =
     reads-by-value 𝓤 H precedence-bound (tyInt w64 ∷ []) none (3 ∷ []) 𝓜 𝓖 𝓡 code.env name lent.name
     (λ r v is. L.lawful O.the-type O′.the-laws 𝓤 H (𝓖 .A) (givenOf 𝓤 H 𝓜 𝓖) tt .typed r _ is .0) ((L.makes O.the-type O′.the-plain) 𝓤 H (𝓖 .A))
-    (λ κs b are h x n bs. record {
-      fits = ((tt, record { fits = are .0 .1 }), tt);
-      places = ((_, refl, refl), (_, refl, refl), (_, refl, refl), (_, refl, refl), (_, refl, refl), (_, refl, refl), (_, refl, refl), (_, refl, refl));
-      agains = (tt, tt);
-      apart = refl;
-      passed = ((_, _, refl, inr (1, refl)), ((_, _, refl, inr (3, refl)), ((_, _, refl, inl refl), tt)));
-      ends = λ h′ zs v. (refl, (_, refl, refl), refl);
-    })
+    (λ κs b are h x n bs. (((tt, record { fits = are .0 .1 }), tt), (tt, tt), refl, refl, refl, λ h′ zs v. (refl, refl)))
     (code.unfolded 𝓤 H 𝓜 𝓡) code.calls-disjunctive·by-value·lent lent.routine code.calls-disjunctive·open-calls·by-precedence·precedence-bound (lent-thm.met 𝓤 H 𝓜 𝓖 𝓡)

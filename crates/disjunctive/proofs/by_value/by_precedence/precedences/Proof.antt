@@ -1,5 +1,4 @@
 -- The record is lent as a `&`, and the ranges as a `&mut`; nothing else is passed.
-use mathlib.Core.Logic.{inr}
 use mir.Val.{vstruct, ofList}
 use denote.Struct.Laws as LL
 use denote.Enum.Laws as L
@@ -55,12 +54,5 @@ precedences-spec 𝓤 H 𝓜 𝓖 𝓡 =
       typed = λ d v is. LL.lawful R.the-type R′.the-laws 𝓤 H (𝓖 .A) W .typed d _ is .0;
       makes = (LL.makes R.the-type R′.the-plain) 𝓤 H (𝓖 .A);
     })
-    (λ κs b are h x n bs. record {
-      fits = tt;
-      places = ((_, refl, refl), (_, refl, refl), (_, refl, refl), (_, refl, refl), (_, refl, refl), (_, refl, refl), (_, refl, refl), (_, refl, refl));
-      agains = (tt, tt);
-      apart = refl;
-      passed = ((_, _, refl, inr (1, refl)), ((_, _, refl, inr (3, refl)), tt));
-      ends = λ h′ zs v. (refl, (_, refl, refl), (_, refl, refl), (_, refl, refl), (_, refl, refl), refl);
-    })
+    (λ κs b are h x n bs. (tt, (tt, tt), refl, refl, refl, λ h′ zs v. (refl, refl)))
     (code.unfolded 𝓤 H 𝓜 𝓡) code.calls-disjunctive·by-value·lent lent.routine code.calls-disjunctive·open-calls·by-precedence·precedences (lent-thm.met 𝓤 H 𝓜 𝓖 𝓡)

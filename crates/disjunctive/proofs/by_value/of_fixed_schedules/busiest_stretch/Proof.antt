@@ -1,6 +1,5 @@
 -- The stretch's length is passed beside the record and the ranges.
 use mir.ValLaws.{ofZ-fits}
-use mathlib.Core.Logic.{inl, inr}
 use denote.Enum.Laws as L
 use Rattle.busiest_stretch.proofs.answer.Busiest as O
 use Rattle.busiest_stretch.proofs.answer.Busiest.Laws as O′
@@ -19,12 +18,5 @@ unfolding code.routine
 busiest-stretch-spec 𝓤 H 𝓜 𝓖 𝓡 =
     reads-by-value 𝓤 H busiest-stretch (tyInt w32 ∷ []) none (3 ∷ []) 𝓜 𝓖 𝓡 code.env name lent.name
     (λ r v is. L.lawful O.the-type O′.the-laws 𝓤 H (𝓖 .A) (givenOf 𝓤 H 𝓜 𝓖) tt .typed r _ is .0) ((L.makes O.the-type O′.the-plain) 𝓤 H (𝓖 .A))
-    (λ κs b are h x n bs. record {
-      fits = ((tt, ofZ-fits w32 (b .0) (record { sfits = are .0 .1 })), tt);
-      places = ((_, refl, refl), (_, refl, refl), (_, refl, refl), (_, refl, refl), (_, refl, refl), (_, refl, refl), (_, refl, refl), (_, refl, refl));
-      agains = (tt, tt);
-      apart = refl;
-      passed = ((_, _, refl, inr (1, refl)), ((_, _, refl, inr (3, refl)), ((_, _, refl, inl refl), tt)));
-      ends = λ h′ zs v. (refl, (_, refl, refl), refl);
-    })
+    (λ κs b are h x n bs. (((tt, ofZ-fits w32 (b .0) (record { sfits = are .0 .1 })), tt), (tt, tt), refl, refl, refl, λ h′ zs v. (refl, refl)))
     (code.unfolded 𝓤 H 𝓜 𝓡) code.calls-disjunctive·by-value·lent lent.routine code.calls-disjunctive·open-calls·of-fixed-schedules·busiest-stretch (lent-thm.met 𝓤 H 𝓜 𝓖 𝓡)

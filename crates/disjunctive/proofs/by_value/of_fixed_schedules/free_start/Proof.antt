@@ -1,6 +1,5 @@
 -- The moment and the duration are passed beside the record and the ranges.
 use mir.ValLaws.{ofZ-fits}
-use mathlib.Core.Logic.{inl, inr}
 use denote.Enum.Laws as L
 use Rattle.free_starts.proofs.FreeStart as O
 use Rattle.free_starts.proofs.FreeStart.Laws as O′
@@ -19,12 +18,6 @@ unfolding code.routine
 free-start-spec 𝓤 H 𝓜 𝓖 𝓡 =
     reads-by-value 𝓤 H free-start (tyInt w32 ∷ tyInt w32 ∷ []) none (3 ∷ 4 ∷ []) 𝓜 𝓖 𝓡 code.env name lent.name
     (λ r v is. L.lawful O.the-type O′.the-laws 𝓤 H (𝓖 .A) (givenOf 𝓤 H 𝓜 𝓖) tt .typed r _ is .0) ((L.makes O.the-type O′.the-plain) 𝓤 H (𝓖 .A))
-    (λ κs b are h x n bs. record {
-      fits = ((tt, ofZ-fits w32 (b .0) (record { sfits = are .0 .1 })), ((tt, ofZ-fits w32 (b .1 .0) (record { sfits = are .1 .0 .1 })), tt));
-      places = ((_, refl, refl), (_, refl, refl), (_, refl, refl), (_, refl, refl), (_, refl, refl), (_, refl, refl), (_, refl, refl), (_, refl, refl));
-      agains = (tt, tt);
-      apart = refl;
-      passed = ((_, _, refl, inr (1, refl)), ((_, _, refl, inr (3, refl)), ((_, _, refl, inl refl), ((_, _, refl, inl refl), tt))));
-      ends = λ h′ zs v. (refl, (_, refl, refl), refl);
-    })
+    (λ κs b are h x n bs.
+    (((tt, ofZ-fits w32 (b .0) (record { sfits = are .0 .1 })), ((tt, ofZ-fits w32 (b .1 .0) (record { sfits = are .1 .0 .1 })), tt)), (tt, tt), refl, refl, refl, λ h′ zs v. (refl, refl)))
     (code.unfolded 𝓤 H 𝓜 𝓡) code.calls-disjunctive·by-value·lent lent.routine code.calls-disjunctive·open-calls·of-fixed-schedules·free-start (lent-thm.met 𝓤 H 𝓜 𝓖 𝓡)

@@ -1,5 +1,4 @@
 -- The buffer is passed beside the record and the ranges.
-use mathlib.Core.Logic.{inr}
 use denote.Enum.Laws as L
 use Rattle.pages.proofs.answer.Page as O
 use Rattle.pages.proofs.answer.Page.Laws as O′
@@ -18,12 +17,5 @@ unfolding code.routine
 page-spec 𝓤 H 𝓜 𝓖 𝓡 =
     reads-by-value 𝓤 H page (sliceTy (tyRef (named 0) mut (tyInt w8)) ∷ []) (some (3, tyInt w8)) (12 ∷ []) 𝓜 𝓖 𝓡 code.env name lent.name
     (λ r v is. L.lawful O.the-type O′.the-laws 𝓤 H (𝓖 .A) (givenOf 𝓤 H 𝓜 𝓖) tt .typed r _ is .0) ((L.makes O.the-type O′.the-plain) 𝓤 H (𝓖 .A))
-    (λ κs b are h x n bs. record {
-      fits = ((tt, (tt, (record { fits = are .0 .0 .1 .0 }, tt))), tt);
-      places = ((_, refl, refl), (_, refl, refl), (_, refl, refl), (_, refl, refl), (_, refl, refl), (_, refl, refl), (_, refl, refl), (_, refl, refl));
-      agains = ((named 0, (_, refl, refl), (_, refl, refl), (_, refl, refl), (_, refl, refl), (_, refl, refl), (tt, (tt, (record { fits = are .0 .0 .1 .0 }, tt)))), tt);
-      apart = refl;
-      passed = ((_, _, refl, inr (1, refl)), ((_, _, refl, inr (3, refl)), ((_, _, refl, inr (5, refl)), tt)));
-      ends = λ h′ zs v. (refl, (_, refl, refl), refl);
-    })
+    (λ κs b are h x n bs. (((tt, (tt, (record { fits = are .0 .0 .1 .0 }, tt))), tt), ((named 0, refl, are .0 .0 .1 .0), tt), refl, refl, refl, λ h′ zs v. (refl, refl)))
     (code.unfolded 𝓤 H 𝓜 𝓡) code.calls-disjunctive·by-value·lent lent.routine code.calls-disjunctive·open-calls·of-fixed-schedules·page (lent-thm.met 𝓤 H 𝓜 𝓖 𝓡)

@@ -107,7 +107,7 @@ module _ {M : Type 1} (𝓤 : URA M) (H : Heap 𝓤) (A : Atoms 𝓤) (W : Given
         move ! (28 ∷ 29 ∷ []) $ looks-into ! tt h b o (λ q′ gh.
         keep ! (29 ∷ 30 ∷ 31 ∷ 8 ∷ 9 ∷ 0 ∷ 5 ∷ 6 ∷ 7 ∷ 10 ∷ 12 ∷ 13 ∷ 14 ∷ 15 ∷ 16 ∷ 17 ∷ 18 ∷ 19 ∷ 20 ∷ 21 ∷ 22 ∷ 1 ∷ 2 ∷ 4 ∷ 11 ∷ 23 ∷ 24 ∷ 25 ∷ 26 ∷ 27 ∷ 28 ∷ []) $
         takes-apart κ₁ q₁ b₁ o₁ γ₁ ys l 3 _ q′ b o h reference mut imm
-        ! C Λ (located locals l) fm at-mem run known-bars known-take g gh (refl, refl, refl, refl, refl, refl, refl, refl, refl, refl, refl, refl, refl, refl, refl, refl, refl)
+        ! C Λ (located locals l) fm at-mem run known-bars known-take g gh ((refl, refl, refl, refl, refl, refl), (refl, refl, refl, refl, refl, refl), (refl, refl, refl, refl, refl))
         (λ n us vs e few gu gv.
         move ! (5 ∷ 21 ∷ 22 ∷ []) $ shuts-record ! tt q′ h b o $
         -- the first numbers of the arrays are lent to the core

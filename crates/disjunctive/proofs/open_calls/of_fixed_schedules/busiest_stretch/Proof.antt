@@ -16,11 +16,5 @@ pub busiest-stretch-spec : {M : Type 1} → stated.statement M
 unfolding code.routine
 busiest-stretch-spec 𝓤 H 𝓜 𝓖 𝓡 =
     reads-only busiest-stretch 𝓤 H 𝓜 𝓖 𝓡 code.env name core.name (λ r v is. L.lawful O.the-type O′.the-laws 𝓤 H (𝓖 .A) (givenOf 𝓤 H 𝓜 𝓖) tt .typed r _ is .0)
-    (λ κs b are v u bs. record {
-      fits = ((tt, ofZ-fits w32 (b .0) (record { sfits = are .0 .1 })), tt);
-      starts-at = (_, refl, refl);
-      record-at = λ w. (_, refl, refl);
-      again-at = λ w p. tt;
-      passed-at = λ w p. ((_, (_, refl, refl)), ((_, (_, refl, refl)), ((_, (_, refl, refl)), tt)));
-    })
+    (λ κs b are v u bs. (((tt, ofZ-fits w32 (b .0) (record { sfits = are .0 .1 })), tt), λ w p. tt, λ w p. refl))
     (code.unfolded 𝓤 H 𝓜 𝓡) code.calls-ranges·starts·starts-of core.routine code.calls-disjunctive·fixed-schedule-cores·stretch-core (core-thm.met 𝓤 H 𝓜 𝓖 𝓡)

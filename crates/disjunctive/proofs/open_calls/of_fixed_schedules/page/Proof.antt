@@ -15,11 +15,5 @@ pub page-spec : {M : Type 1} → stated.statement M
 unfolding code.routine
 page-spec 𝓤 H 𝓜 𝓖 𝓡 =
     reads-only page 𝓤 H 𝓜 𝓖 𝓡 code.env name core.name (λ r v is. L.lawful O.the-type O′.the-laws 𝓤 H (𝓖 .A) (givenOf 𝓤 H 𝓜 𝓖) tt .typed r _ is .0)
-    (λ κs b are v u bs. record {
-      fits = ((tt, (tt, (record { fits = are .0 .0 .1 .0 }, tt))), tt);
-      starts-at = (_, refl, refl);
-      record-at = λ w. (_, refl, refl);
-      again-at = λ w p. (named 2, (_, refl, refl), (_, refl, refl), (_, refl, refl), (_, refl, refl), (_, refl, refl), (tt, (tt, (record { fits = are .0 .0 .1 .0 }, tt))));
-      passed-at = λ w p. ((_, (_, refl, refl)), ((_, (_, refl, refl)), ((_, (_, refl, refl)), tt)));
-    })
+    (λ κs b are v u bs. (((tt, (tt, (record { fits = are .0 .0 .1 .0 }, tt))), tt), λ w p. (named 2, refl, are .0 .0 .1 .0), λ w p. refl))
     (code.unfolded 𝓤 H 𝓜 𝓡) code.calls-ranges·starts·starts-of core.routine code.calls-disjunctive·fixed-schedule-cores·page-core (core-thm.met 𝓤 H 𝓜 𝓖 𝓡)
