@@ -45,12 +45,6 @@ module _ (n : ℕ) where
   abbrev ds : List ℤ
   ds = map pos (costliestDurations n)
 
-  starts-are : map (λ (t : Triple). t .earliest) (costliest n) ≡ es
-  starts-are = tab-map (λ (t : Triple). t .earliest) costliestTask 0 n
-
-  latest-are : map (λ (t : Triple). t .latest) (costliest n) ≡ es
-  latest-are = tab-map (λ (t : Triple). t .latest) costliestTask 0 n
-
   tens : (a d : ℕ) → map (λ (t : Triple). t .duration) (tabulate costliestTask a d) ≡ map pos (replicate d 10)
   unfolding tabulate
   tens a zero = refl
@@ -122,7 +116,7 @@ module _ (n : ℕ) where
 
     planned-is : plannedOf (costliest n) ≡ ran (propagate (costliestDurations n) es es)
     planned-is =
-        (λ i. planned (starts-are i) (latest-are i) (tens 0 n i))
+        (λ i. planned (tab-map (λ (t : Triple). t .earliest) costliestTask 0 n i) (tab-map (λ (t : Triple). t .latest) costliestTask 0 n i) (tens 0 n i))
         ∙ ap (λ (k : ℕ). numbered k (ranOn (newRecord ds) es es)) created
         ∙ ap (λ (k : ℕ). numbered k (ran (traceOf (newRecord ds) es es))) accepted
         ∙ ap (λ (l : List ℕ). ran (propagate l es es)) durations-are

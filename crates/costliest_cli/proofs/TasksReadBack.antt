@@ -1,13 +1,12 @@
--- The program `plan` reads back the tasks that are written, whatever they are.
+-- The program `plan` reads back the costliest tasks as they are written.
 use mathlib.Core.Path.{_≡_, refl, sym, ap, _∙_}
 use mathlib.Core.Bool.{true}
 use mathlib.Core.List.{List, [], _∷_, _++_, append-assoc}
 use mathlib.Core.Option.{some}
 use Prim.Native.Nat.{ℕ, zero, suc, _+_, _*_, _≤_}
 use native.Mathlib.Omega.{arith}
-use lib.IntN.{ℤ, pos, negsuc}
+use lib.IntN.{ℤ, pos}
 use lib.ListN.{length}
-use lib.Signed.{_≤ℤ_}
 use borrow.Author.Tests.{eq-eqb}
 use Rattle.integers.specs.Limits.{TASKS}
 use Rattle.integers.proofs.Ints.{ints, up, dn}
@@ -21,25 +20,7 @@ use Rattle.plan_cli.specs.Printed.{Triple, triples, inputTasks, plannedOf, orZe
 use Rattle.costliest_cli.specs.Tasks.{taskLine, instanceLines, costliestTask, costliest}
 use Rattle.costliest_cli.proofs.TaskLines.{costliest-length}
 
--- ---- tasks whose numbers are of 32 bits
-record HeldNumber (z : ℤ) : Type 0 where
-  low : negsuc 2147483647 ≤ℤ z
-  high : z ≤ℤ pos 2147483647
-
-record HeldTask (t : Triple) : Type 0 where
-  earliest : HeldNumber (t .earliest)
-  latest : HeldNumber (t .latest)
-  duration : HeldNumber (t .duration)
-
-abbrev AllHeld : List Triple → Type 0
-AllHeld [] = Unit {0}
-AllHeld (t ∷ ts) = HeldTask t × AllHeld ts
-
-held : (n : ℕ) → n ≤ 2147483647 → HeldNumber (pos n)
-unfolding up dn
-held n h = record { low = omega ints; high = omega ints }
-
--- ---- their numbers in a row
+-- ---- the numbers of tasks in a row
 unfoldable pub row : List Triple → List ℤ
 row [] = []
 row (t ∷ ts) = t .earliest ∷ t .latest ∷ t .duration ∷ row ts
@@ -60,13 +41,13 @@ unfolding inputTasks
 row-input ts = rw (eq-eqb (length (row ts)) (3 * length ts) (row-length ts), inputTasks) (ap some (row-triples ts))
 
 -- ---- what is written is read back
-feed-parts : isSpace 10 ≡ true
+parts : (isSpace 10 ≡ true) × (isSpace 32 ≡ true)
 unfolding isSpace
-feed-parts = refl
+parts = (refl, refl)
 
-space-parts : isSpace 32 ≡ true
-unfolding isSpace
-space-parts = refl
+natural-back : (n b : ℕ) (bs : List ℕ) (xs : List ℤ) → n ≤ 2147483647 → isSpace b ≡ true → numbersOf bs ≡ some xs → numbersOf (decimal (pos n) ++ b ∷ bs) ≡ some (pos n ∷ xs)
+unfolding up dn
+natural-back n b bs xs h = number-back (pos n) b bs xs (omega ints) (omega ints)
 
 spread : (a b c bs : List ℕ) → (a ++ space ++ b ++ space ++ c ++ newline) ++ bs ≡ a ++ 32 ∷ (b ++ 32 ∷ (c ++ 10 ∷ bs))
 unfolding bytesOf
@@ -77,37 +58,29 @@ spread a b c bs =
     ∙ append-assoc (a ++ space) b (32 ∷ (c ++ 10 ∷ bs))
     ∙ append-assoc a space (b ++ 32 ∷ (c ++ 10 ∷ bs))
 
-line-back : (t : Triple) → HeldTask t → (bs : List ℕ) (xs : List ℤ) → numbersOf bs ≡ some xs → numbersOf (taskLine t ++ bs) ≡ some (t .earliest ∷ t .latest ∷ t .duration ∷ xs)
+line-back : (k : ℕ) → k ≤ TASKS → (bs : List ℕ) (xs : List ℤ) → numbersOf bs ≡ some xs → numbersOf (taskLine (costliestTask k) ++ bs) ≡ some (pos (10 * k) ∷ pos (10 * k) ∷ pos 10 ∷ xs)
 unfolding taskLine
-line-back t h bs xs e =
-    ap numbersOf (spread (decimal (t .earliest)) (decimal (t .latest)) (decimal (t .duration)) bs)
-    ∙ number-back (t .earliest) 32 (decimal (t .latest) ++ 32 ∷ (decimal (t .duration) ++ 10 ∷ bs)) (t .latest ∷ t .duration ∷ xs) (h .earliest .low) (h .earliest .high) space-parts
-    (number-back (t .latest) 32 (decimal (t .duration) ++ 10 ∷ bs) (t .duration ∷ xs) (h .latest .low) (h .latest .high) space-parts
-    (number-back (t .duration) 10 bs xs (h .duration .low) (h .duration .high) feed-parts e))
+line-back k h bs xs e =
+    let start = decimal (pos (10 * k)) in
+    let rest = decimal (pos 10) ++ 10 ∷ bs in
+    ap numbersOf (spread start start (decimal (pos 10)) bs)
+    ∙ natural-back (10 * k) 32 (start ++ 32 ∷ rest) (pos (10 * k) ∷ pos 10 ∷ xs) (omega arith) (parts .1)
+    (natural-back (10 * k) 32 rest (pos 10 ∷ xs) (omega arith) (parts .1) (natural-back 10 10 bs xs (omega arith) (parts .0) e))
 
-lines-back : (ts : List Triple) → AllHeld ts → numbersOf (lines taskLine ts) ≡ some (row ts)
-unfolding lines row
-lines-back [] h = no-numbers
-lines-back (t ∷ ts) h = line-back t (h .0) (lines taskLine ts) (row ts) (lines-back ts (h .1))
-
-instance-back : (ts : List Triple) → AllHeld ts → length ts ≤ 2147483647 → numbersOf (instanceLines ts) ≡ some (pos (length ts) ∷ row ts)
-unfolding instanceLines decimal bytesOf
-instance-back ts h few =
-    let k = held (length ts) few in
-    ap numbersOf (append-assoc (natural (length ts)) newline (lines taskLine ts)) ∙ number-back (pos (length ts)) 10 (lines taskLine ts) (row ts) (k .low) (k .high) feed-parts (lines-back ts h)
-
--- ---- the costliest tasks
-tasks-held : (a d : ℕ) → a + d ≤ TASKS → AllHeld (tabulate costliestTask a d)
-unfolding tabulate
-tasks-held a zero h = tt
-tasks-held a (suc d) h =
-    let start = held (10 * a) (omega arith) in
-    (record { earliest = start; latest = start; duration = held 10 (omega arith) }, tasks-held (suc a) d (omega arith))
+lines-back : (a d : ℕ) → a + d ≤ TASKS → numbersOf (lines taskLine (tabulate costliestTask a d)) ≡ some (row (tabulate costliestTask a d))
+unfolding lines row tabulate
+lines-back a zero h = no-numbers
+lines-back a (suc d) h =
+    line-back a (omega arith) (lines taskLine (tabulate costliestTask (suc a) d)) (row (tabulate costliestTask (suc a) d)) (lines-back (suc a) d (omega arith))
 
 -- Reading the lines of n of them gives the count n and n triples, and these are the tasks.
 pub costliest-back : (n : ℕ) → n ≤ TASKS → numbersOf (instanceLines (costliest n)) ≡ some (pos n ∷ row (costliest n))
+unfolding instanceLines decimal bytesOf
 costliest-back n few =
-    instance-back (costliest n) (tasks-held 0 n (omega arith)) (omega (arith, costliest-length n)) ∙ ap (λ (m : ℕ). some (pos m ∷ row (costliest n))) (costliest-length n)
+    let long = costliest-length n in
+    ap numbersOf (append-assoc (natural (length (costliest n))) newline (lines taskLine (costliest n)))
+    ∙ natural-back (length (costliest n)) 10 (lines taskLine (costliest n)) (row (costliest n)) (omega arith) (parts .0) (lines-back 0 n (omega arith))
+    ∙ ap (λ (m : ℕ). some (pos m ∷ row (costliest n))) long
 
 pub costliest-input : (n : ℕ) → inputTasks (pos n ∷ row (costliest n)) ≡ some (costliest n)
 costliest-input n = ap (λ (m : ℕ). inputTasks (pos m ∷ row (costliest n))) (sym (costliest-length n)) ∙ row-input (costliest n)

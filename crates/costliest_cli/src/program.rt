@@ -2,9 +2,9 @@
 use crate::size::Asked;
 use crate::size::size_asked;
 use crate::tasks::put_instance;
-use libc::STDOUT_FILENO;
 use plan_cli::lines::put_refused;
 use plan_cli::stdin::read_numbers;
+use plan_cli::stdout::write_first;
 use text::reading::Numbers;
 use text::reading::numbers_of;
 ghost use mathlib.Core.List.{List};
@@ -56,5 +56,5 @@ fn answer_input(out: &mut [u8]) -> usize
 pub fn run() {
     let mut out = [0u8; ROOM];
     let n = answer_input(&mut out);
-    io::write_all(STDOUT_FILENO, &out[..n]);
+    write_first(&out, n);
 }

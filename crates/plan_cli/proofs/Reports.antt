@@ -16,18 +16,10 @@ use Rattle.runs.proofs.WrittenSlices.{reasons-suc, reasons-most}
 use Rattle.post_words.specs.Posts.{taskWord, boundOf, reasonWords}
 use Rattle.text.specs.DecimalText.{Puts}
 use Rattle.text.proofs.PutBytes.{puts-append}
-use Rattle.plan_cli.specs.Lines.{newline, doneWord, overloadLine, postLine, lines, whyLines, spaced, doneLine, overloadLines}
+use Rattle.plan_cli.specs.Lines.{postLine, lines, whyLines}
 use Rattle.plan_cli.specs.RunLines.{postOf}
 use Rattle.plan_cli.specs.RunSlices.{PostHeld, PostsHeld, Posts}
 use Rattle.plan_cli.proofs.RunLines.{puts-as, puts-first, puts-next, puts-all}
-
-pub puts-done : {o₀ o₁ o₂ o₃ : List ℕ} {a₀ a₁ a₂ a₃ : ℕ} (xs : List ℤ) → Puts o₀ o₁ a₀ doneWord a₁ → Puts o₁ o₂ a₁ (spaced xs) a₂ → Puts o₂ o₃ a₂ newline a₃ → Puts o₀ o₃ a₀ (doneLine xs) a₃
-unfolding doneLine
-puts-done xs p q r = puts-append (puts-append p q) r
-
-pub puts-overload : {o₀ o₁ o₂ : List ℕ} {a₀ a₁ a₂ : ℕ} (reason : List Atom) → Puts o₀ o₁ a₀ (whyLines reason) a₁ → Puts o₁ o₂ a₁ overloadLine a₂ → Puts o₀ o₂ a₀ (overloadLines reason) a₂
-unfolding overloadLines
-puts-overload reason p q = puts-append p q
 
 -- a post's line, whose words come back from their bits, and its reason
 pub puts-posted : {o₀ o₁ o₂ : List ℕ} {a₀ a₁ a₂ : ℕ} {x y : ℤ} (posts atoms words : List ℤ) (count j : ℕ) → x ≡ taskWord posts j → y ≡ boundOf posts j → words ≡ reasonWords posts atoms count j

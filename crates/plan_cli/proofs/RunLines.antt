@@ -10,12 +10,12 @@ use lib.Seq.{take-all}
 use lib.IntN.{ℤ, pos}
 use lib.Signed.{leZ}
 use Rattle.integers.specs.Texts.{bytesOf}
-use Rattle.text.specs.DecimalText.{natural, decimal, Puts}
+use Rattle.text.specs.DecimalText.{decimal, Puts}
 use Rattle.text.proofs.PutBytes.{puts-append}
 use Rattle.scheduling.specs.Scheduling.{Atom}
 use Rattle.scheduling.specs.Words.{atomWords, no-atom}
 use Rattle.scheduling.proofs.Words.{atoms-length, three-alone}
-use Rattle.plan_cli.specs.Lines.{newline, space, postWord, whyWord, refusedWord, sign, postLine, whyLine, lines, whyOf, whyLines, refusedLine}
+use Rattle.plan_cli.specs.Lines.{sign, whyLine, lines, whyOf, whyLines}
 
 pub sign-low : (kind : ℤ) → leZ kind (pos 0) ≡ true → bytesOf " >= " ≡ sign kind
 unfolding sign
@@ -32,23 +32,6 @@ puts-as {before} {after} {us} {vs} {at} {next} e p = subst (λ (l : List ℕ). P
 -- a number that came back from its bits
 pub puts-number : {before after : List ℕ} {at next : ℕ} {x y : ℤ} → x ≡ y → Puts before after at (decimal x) next → Puts before after at (decimal y) next
 puts-number e p = puts-as (ap decimal e) p
-
-module _ {o₀ o₁ o₂ o₃ o₄ o₅ : List ℕ} {a₀ a₁ a₂ a₃ a₄ a₅ : ℕ} where
-  pub puts-post : {x y v w : ℤ} → x ≡ y → v ≡ w → Puts o₀ o₁ a₀ postWord a₁ → Puts o₁ o₂ a₁ (decimal x) a₂ → Puts o₂ o₃ a₂ space a₃ → Puts o₃ o₄ a₃ (decimal v) a₄ → Puts o₄ o₅ a₄ newline a₅
-      → Puts o₀ o₅ a₀ (postLine y w) a₅
-  unfolding postLine
-  puts-post e f p q r s t = puts-append (puts-append (puts-append (puts-append p (puts-number e q)) r) (puts-number f s)) t
-
-  pub puts-why : {x y k j v w : ℤ} → x ≡ y → k ≡ j → v ≡ w → Puts o₀ o₁ a₀ whyWord a₁ → Puts o₁ o₂ a₁ (decimal x) a₂ → Puts o₂ o₃ a₂ (sign k) a₃ → Puts o₃ o₄ a₃ (decimal v) a₄
-      → Puts o₄ o₅ a₄ newline a₅
-      → Puts o₀ o₅ a₀ (whyLine y j w) a₅
-  unfolding whyLine
-  puts-why e g f p q r s t = puts-append (puts-append (puts-append (puts-append p (puts-number e q)) (puts-as (ap sign g) r)) (puts-number f s)) t
-
-pub puts-refused : {o₀ o₁ o₂ o₃ : List ℕ} {a₀ a₁ a₂ a₃ : ℕ} (number : ℕ) → Puts o₀ o₁ a₀ refusedWord a₁ → Puts o₁ o₂ a₁ (natural number) a₂ → Puts o₂ o₃ a₂ newline a₃
-    → Puts o₀ o₃ a₀ (refusedLine number) a₃
-unfolding refusedLine
-puts-refused number p q r = puts-append (puts-append p q) r
 
 -- ---- lines of a list, one by one
 module _ {A : Type 0} (f : A → List ℕ) (d : A) where

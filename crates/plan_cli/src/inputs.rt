@@ -1,4 +1,5 @@
 // Several inputs in one text, each ended by a '%': where one ends, and its answer, with a '%' on a line after it.
+use crate::stdout::write_first;
 use libc::STDOUT_FILENO;
 ghost use mathlib.Core.Path.{_≡_};
 ghost use Prim.Native.Nat.{_+_, _≤_};
@@ -21,10 +22,10 @@ pub fn end_of(inputs: &[u8], from: usize) -> usize
     i
 }
 
-// Writes the answer, the first n bytes.
+// Writes the answer, and the mark after it.
 pub fn write_answer(out: &[u8], n: usize)
     requires { ⌜ n ≤ length (now out) ⌝ }
 {
-    io::write_all(STDOUT_FILENO, &out[..n]);
+    write_first(out, n);
     io::write_all(STDOUT_FILENO, b"%\n");
 }

@@ -7,3 +7,4 @@ mod plan;
 pub mod program;
 mod report;
 pub mod stdin;
+pub mod stdout;

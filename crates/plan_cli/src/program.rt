@@ -1,7 +1,7 @@
 // The program: standard input is read to its end, and the answer is written to standard output. Only reading and writing is assumed.
 use crate::answer::put_answer;
 use crate::stdin::read_numbers;
-use libc::STDOUT_FILENO;
+use crate::stdout::write_first;
 use text::reading::numbers_of;
 ghost use mathlib.Core.List.{List};
 ghost use Prim.Native.Nat.{ℕ, _≤_};
@@ -32,5 +32,5 @@ fn answer_input(out: &mut [u8]) -> usize
 pub fn run() {
     let mut out = [0u8; ROOM];
     let n = answer_input(&mut out);
-    io::write_all(STDOUT_FILENO, &out[..n]);
+    write_first(&out, n);
 }

@@ -1,25 +1,29 @@
 // A line's command, and its answer.
 use crate::check_commands::answer_check;
-use crate::lines::say;
-use crate::lines::say_error;
-use crate::parts::LISTS;
-use crate::parts::WORDS;
-use crate::parts::after_word;
-use crate::parts::first_word;
-use crate::parts::list;
-use crate::parts::lists_in;
-use crate::parts::same;
 use crate::range_commands::answer_ranges;
-use crate::record_commands::answer_add;
-use crate::record_commands::answer_create;
-use crate::record_commands::answer_remove;
-use crate::state_commands::answer_apply;
-use crate::state_commands::answer_prepare;
-use crate::state_commands::answer_query;
-use crate::state_commands::answer_state;
+use crate::record_commands::answer_change;
+use checking::variable_state::VariableState;
 use disjunctive::DisjunctivePropagator;
-use disjunctive::VariableState;
 use disjunctive::create;
+use replay_lines::lines::END;
+use replay_lines::lines::say_error;
+use replay_lines::lines::say_line;
+use replay_lines::parts::LISTS;
+use replay_lines::parts::WORDS;
+use replay_lines::parts::after_word;
+use replay_lines::parts::first_word;
+use replay_lines::parts::list;
+use replay_lines::parts::lists_in;
+use replay_lines::state_commands::answer_prepare;
+use replay_lines::state_commands::answer_query;
+use replay_lines::state_commands::answer_state;
+use replay_lines::words::APPLY;
+use replay_lines::words::CHECK_MIRRORED;
+use replay_lines::words::CREATE;
+use replay_lines::words::PREPARE;
+use replay_lines::words::REMOVE;
+use replay_lines::words::SHOW;
+use replay_lines::words::number_of;
 
 // What is kept between commands.
 pub struct Session {
@@ -62,37 +66,27 @@ impl Session {
         }
     }
 
-    // The answer to a command with one list of numbers; others are passed on.
-    fn answer_list(self, word: &[u8], words: &[i32], ends: &[usize]) -> Session {
-        let a = list(words, ends, 0);
-        if same(word, b"create") {
-            return self.with_record(answer_create(a));
-        }
-        if self.made && same(word, b"add") {
+    // The answer to a command with one list of numbers.
+    fn answer_list(self, command: usize, a: &[i32]) -> Session {
+        if command == CREATE || (self.made && command <= REMOVE) {
             let record = self.record;
-            return self.with_record(answer_add(record, a));
+            return self.with_record(answer_change(record, command, a));
         }
-        if self.made && same(word, b"remove") {
-            let record = self.record;
-            return self.with_record(answer_remove(record, a));
-        }
-        if same(word, b"state") {
-            return self.with_state(answer_state());
-        }
-        if same(word, b"apply") {
-            let state = self.state;
-            return self.with_state(answer_apply(state, a));
+        if command <= REMOVE {
+            say_error();
+            return self;
         }
         let state = self.state;
-        if !answer_query(state, word, a) {
-            return self.answer_lists(word, words, ends, 1);
+        if command <= APPLY {
+            return self.with_state(answer_state(state, command, a));
         }
+        answer_query(state, command, a);
         self
     }
 
-    // The answer to a command with any number of lists.
-    fn answer_lists(self, word: &[u8], words: &[i32], ends: &[usize], n: usize) -> Session {
-        if same(word, b"prepare") {
+    // The answer to a command on lists, of which there are n.
+    fn answer_lists(self, command: usize, words: &[i32], ends: &[usize], n: usize) -> Session {
+        if command == PREPARE {
             let state = self.state;
             return self.with_state(answer_prepare(
                 state,
@@ -100,16 +94,29 @@ impl Session {
                 list(words, ends, 1),
             ));
         }
-        if answer_check(word, words, ends) {
+        if command <= CHECK_MIRRORED {
+            answer_check(command, words, ends);
             return self;
         }
         if self.made {
             let record = self.record;
-            answer_ranges(record, word, words, ends, n);
+            answer_ranges(record, command, words, ends, n);
         } else {
             say_error();
         }
         self
+    }
+
+    // The answer to a command, whose n lists are read: none where a word is no number. The commands up to SHOW take one list.
+    fn answer_read(self, command: usize, words: &[i32], ends: &[usize], n: usize) -> Session {
+        if n == 0 || (command <= SHOW && n > 1) {
+            say_error();
+            return self;
+        }
+        if command <= SHOW {
+            return self.answer_list(command, list(words, ends, 0));
+        }
+        self.answer_lists(command, words, ends, n)
     }
 
     // The answer to a command, whose lists are read here.
@@ -117,14 +124,7 @@ impl Session {
         let mut words = [0i32; WORDS];
         let mut ends = [0usize; LISTS];
         let n = lists_in(&mut words, &mut ends, after_word(line));
-        if n == 0 {
-            say_error();
-            return self;
-        }
-        if n == 1 {
-            return self.answer_list(first_word(line), &words, &ends);
-        }
-        self.answer_lists(first_word(line), &words, &ends, n)
+        self.answer_read(number_of(first_word(line)), &words, &ends, n)
     }
 
     // A line's answer, and `end` after it. Empty lines and those that start with # have none.
@@ -138,7 +138,7 @@ impl Session {
             return self;
         }
         let next = self.answer_command(command);
-        say(b"end\n");
+        say_line(END);
         next
     }
 }

@@ -3,14 +3,9 @@
 mod check_commands;
 mod commands;
 mod conflict_commands;
-mod input;
-mod lines;
-mod parts;
-mod posts;
 mod range_commands;
 mod range_lists;
 mod record_commands;
 mod run_commands;
 mod schedule_commands;
 pub mod serving;
-mod state_commands;

@@ -1,13 +1,15 @@
 // The ranges of a command: pairs of starts, and after them lists of barred starts, each for one task.
-use crate::lines::say;
-use crate::lines::say_number;
-use crate::parts::list;
-use crate::parts::number_at;
-use crate::parts::place_of;
 use disjunctive::by_value::RANGES;
 use disjunctive::by_value::Ranges;
 use integers::limits::BARS;
 use ranges::range::Range;
+use replay_lines::lines::STARTS;
+use replay_lines::lines::end_line;
+use replay_lines::lines::say_number;
+use replay_lines::lines::say_word;
+use replay_lines::parts::list;
+use replay_lines::parts::number_at;
+use replay_lines::parts::place_of;
 
 // The ranges of a command: the first `count` of those that are kept. `valid` is false where the command is not understood.
 pub struct RangeList {
@@ -130,11 +132,11 @@ fn start_at(ranges: [Range; RANGES], i: usize, bound: StartBound) -> i32 {
 
 // The line of the first n starts: the earliest, or the latest.
 pub fn say_starts(ranges: [Range; RANGES], n: usize, bound: StartBound) {
-    say(b"starts");
+    say_word(STARTS);
     let mut i = 0;
     while i < n {
         say_number(start_at(ranges, i, bound));
         i += 1;
     }
-    say(b"\n");
+    end_line();
 }

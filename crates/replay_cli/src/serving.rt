@@ -1,7 +1,7 @@
 // Standard input, read line by line; each line's answer goes to standard output.
 use crate::commands::Session;
-use crate::input::next_line;
-use crate::parts::bytes_of;
+use replay_lines::input::next_line;
+use replay_lines::parts::bytes_of;
 
 // The longest line that is read as one.
 const LINE: usize = 65536;

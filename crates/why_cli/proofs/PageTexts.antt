@@ -1,4 +1,5 @@
 -- What the call leaves of an instance is the text that is promised.
+use mathlib.Core.Logic.{_⊎_, inl, inr}
 use mathlib.Core.Path.{_≡_, refl, sym, ap, subst, _∙_}
 use mathlib.Core.Bool.{true}
 use mathlib.Core.List.{List}
@@ -34,18 +35,15 @@ or-refused : (n : ℕ) (text : List ℕ) → (n ≡ 0 → ⊥) → refusedOr n t
 or-refused zero text h = absurd (h refl)
 or-refused (suc n) text h = refl
 
--- by what was found
-is-nothing : (f : Found) → Dec (f ≡ found.NothingFound)
-is-nothing found.NothingFound = yes refl
-is-nothing found.Overload = no (λ e. let y : _≡_ {A = ℕ} 0 1 = cc in omega arith)
-is-nothing (found.Late i l b) = no (λ e. let y : _≡_ {A = ℕ} 0 1 = cc in omega arith)
-is-nothing (found.Refused m) = no (λ e. let y : _≡_ {A = ℕ} 0 1 = cc in omega arith)
+-- nothing was found, or the text is the page
+abbrev Paging : Found → Type 0
+Paging f = (f ≡ found.NothingFound → ⊥) × ((page : List ℕ) → foundText f page ≡ page)
 
-is-page : (f : Found) (page : List ℕ) → (f ≡ found.NothingFound → ⊥) → foundText f page ≡ page
-is-page found.NothingFound page h = absurd (h refl)
-is-page found.Overload page h = refl
-is-page (found.Late i l b) page h = refl
-is-page (found.Refused m) page h = refl
+is-nothing : (f : Found) → (f ≡ found.NothingFound) ⊎ Paging f
+is-nothing found.NothingFound = inl refl
+is-nothing found.Overload = inr ((λ e. let y : _≡_ {A = ℕ} 0 1 = cc in omega arith), λ page. refl)
+is-nothing (found.Late i l b) = inr ((λ e. let y : _≡_ {A = ℕ} 0 1 = cc in omega arith), λ page. refl)
+is-nothing (found.Refused m) = inr ((λ e. let y : _≡_ {A = ℕ} 0 1 = cc in omega arith), λ page. refl)
 
 module _ (r : DisjunctivePropagator) (es ls : List ℤ) (out : List ℕ) (room : ROOM ≤ length out) where
   -- the room is enough, so that the number is the call's
@@ -74,32 +72,32 @@ module _ (r : DisjunctivePropagator) (es ls : List ℤ) (out : List ℕ) (room :
   pub page-text : {out′ : List ℕ} (k : ℕ) → ConflictPaged r es ls true out (Written k) out′ → length out′ ≡ length out → Puts out out′ 0 (whyOn r es ls) k × (k ≤ length out)
   page-text {out′} k x same = by (ℕ-discrete n 0) (is-nothing shown)
     where
-      by : Dec (n ≡ 0) → Dec (shown ≡ found.NothingFound) → Puts out out′ 0 (whyOn r es ls) k × (k ≤ length out)
+      by : Dec (n ≡ 0) → (shown ≡ found.NothingFound) ⊎ Paging shown → Puts out out′ 0 (whyOn r es ls) k × (k ≤ length out)
       by (no h) g = absurd (omega (arith, same-kind (x .refused h .answer)))
-      by (yes z) (yes g) = absurd (omega (arith, same-kind (x .nothing z g .answer)))
-      by (yes z) (no g) =
-          let l = x .written z g in
+      by (yes z) (inl g) = absurd (omega (arith, same-kind (x .nothing z g .answer)))
+      by (yes z) (inr g) =
+          let l = x .written z (g .0) in
           let e : k ≡ length (conflictPageOf r es ls) = same-count (l .answer) 0 in
           let fits : length (conflictPageOf r es ls) ≤ length out = omega (arith, ap length (l .text), length-append (conflictPageOf r es ls) (drop (length (conflictPageOf r es ls)) out), same) in (
-            rw (accepted-text z, is-page shown (conflictPageOf r es ls) g) (record { text = l .text ∙ sym (overwrites out (conflictPageOf r es ls) fits); end = omega (arith, e) }),
+            rw (accepted-text z, g .1 (conflictPageOf r es ls)) (record { text = l .text ∙ sym (overwrites out (conflictPageOf r es ls) fits); end = omega (arith, e) }),
             omega (arith, e, fits),
           )
 
   pub nothing-text : {out′ : List ℕ} → ConflictPaged r es ls true out NothingFound out′ → (out′ ≡ out) × (bytesOf "nothing found\n" ≡ whyOn r es ls)
   nothing-text {out′} x = by (ℕ-discrete n 0) (is-nothing shown)
     where
-      by : Dec (n ≡ 0) → Dec (shown ≡ found.NothingFound) → (out′ ≡ out) × (bytesOf "nothing found\n" ≡ whyOn r es ls)
+      by : Dec (n ≡ 0) → (shown ≡ found.NothingFound) ⊎ Paging shown → (out′ ≡ out) × (bytesOf "nothing found\n" ≡ whyOn r es ls)
       by (no h) g = absurd (omega (arith, same-kind (x .refused h .answer)))
-      by (yes z) (yes g) = (x .nothing z g .keeps, sym (accepted-text z ∙ ap (λ (f : Found). foundText f (conflictPageOf r es ls)) g))
-      by (yes z) (no g) = absurd (omega (arith, same-kind (x .written z g .answer)))
+      by (yes z) (inl g) = (x .nothing z g .keeps, sym (accepted-text z ∙ ap (λ (f : Found). foundText f (conflictPageOf r es ls)) g))
+      by (yes z) (inr g) = absurd (omega (arith, same-kind (x .written z (g .0) .answer)))
 
   pub refused-texts : {out′ : List ℕ} (m : ℕ) → ConflictPaged r es ls true out (Refused m) out′ → (out′ ≡ out) × (refusedLine m ≡ whyOn r es ls)
   refused-texts {out′} m x = by (ℕ-discrete n 0) (is-nothing shown)
     where
-      by : Dec (n ≡ 0) → Dec (shown ≡ found.NothingFound) → (out′ ≡ out) × (refusedLine m ≡ whyOn r es ls)
+      by : Dec (n ≡ 0) → (shown ≡ found.NothingFound) ⊎ Paging shown → (out′ ≡ out) × (refusedLine m ≡ whyOn r es ls)
       by (no h) g = (x .refused h .keeps, sym (refused-text h ∙ ap refusedLine (sym (ap (λ (a : Answer). a .number) (x .refused h .answer)))))
-      by (yes z) (yes g) = absurd (omega (arith, same-kind (x .nothing z g .answer)))
-      by (yes z) (no g) = absurd (omega (arith, same-kind (x .written z g .answer)))
+      by (yes z) (inl g) = absurd (omega (arith, same-kind (x .nothing z g .answer)))
+      by (yes z) (inr g) = absurd (omega (arith, same-kind (x .written z (g .0) .answer)))
 
 -- ---- a record is made of the durations, or not
 module _ (es ls ds : List ℤ) (r : Created) (creates : Creates ds r) where

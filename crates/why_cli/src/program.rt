@@ -2,12 +2,12 @@
 use crate::page::put_why;
 use integers::limits::TASKS;
 use integers::refused;
-use libc::STDOUT_FILENO;
 use plan_cli::input::Counted;
 use plan_cli::input::column_of;
 use plan_cli::input::task_count;
 use plan_cli::lines::put_refused;
 use plan_cli::stdin::read_numbers;
+use plan_cli::stdout::write_first;
 use text::reading::Numbers;
 ghost use mathlib.Core.List.{List};
 ghost use mathlib.Core.Option.{Option};
@@ -56,5 +56,5 @@ fn answer_input(out: &mut [u8]) -> usize
 pub fn run() {
     let mut out = [0u8; ROOM];
     let n = answer_input(&mut out);
-    io::write_all(STDOUT_FILENO, &out[..n]);
+    write_first(&out, n);
 }

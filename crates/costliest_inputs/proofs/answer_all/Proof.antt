@@ -5,16 +5,10 @@ use borrow.Author.Needs.{needs}
 use Rattle.costliest_inputs.proofs.answer_all.Statement.{statement}
 use Rattle.costliest_inputs.proofs.answer_all.Tie as tie
 
-abbrev Inv-loop : tie.InvT-loop
-Inv-loop inputs from₀ from = Unit {0}
-
-abbrev μ-loop : tie.MeasureT-loop
-μ-loop inputs from₀ from = length inputs - from
-
 pub answer-all-spec : {M : Type 1} → statement M
 answer-all-spec =
     tie.close
     (tie.spec
-    Inv-loop μ-loop (λ c. search needs) (λ c κs. search needs) (λ c. search needs) (λ c. search needs)
+    (λ inputs from₀ from. Unit {0}) (λ inputs from₀ from. length inputs - from) (λ c. search needs) (λ c κs. search needs) (λ c. search needs) (λ c. search needs)
     (λ c. search needs) (λ c κs. search needs) (λ c. search needs) (λ c. search needs) (λ c. search needs)
     (λ c. search needs))

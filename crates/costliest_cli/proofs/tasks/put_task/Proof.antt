@@ -1,13 +1,15 @@
 -- Three numbers with what stands between them, put one after the other; each has at most 20 bytes.
 use native.Mathlib.Omega.{arith}
 use Rattle.integers.specs.Texts.{bytesOf}
-use Rattle.costliest_cli.proofs.TaskLines.{puts-task}
+use Rattle.text.specs.DecimalText.{decimal}
+use Rattle.text.proofs.PutBytes.{puts-append}
+use Rattle.costliest_cli.specs.Tasks.{taskLine}
 use borrow.Author.Needs.{needs}
 use Rattle.costliest_cli.proofs.tasks.put_task.Statement.{statement}
 use Rattle.costliest_cli.proofs.tasks.put_task.Tie as tie
 
 returns : tie.Need-returns
-unfolding bytesOf
+unfolding bytesOf taskLine decimal
 returns c =
     let last = c .before .before in
     let third = last .before .before .before .before .before in
@@ -15,8 +17,8 @@ returns c =
     let second = gap2 .before .before .before .before .before in
     let gap1 = second .before .before .before .before in
     let first = gap1 .before .before .before .before .before in (
-      puts-task (first .before .before .before .args .k) (first .put-count .ensures .0) (gap1 .put-bytes .ensures) (second .put-count2 .ensures .0) (gap2 .put-bytes2 .ensures)
-          (third .put-count3 .ensures .0) (last .put-bytes3 .ensures),
+      puts-append (puts-append (puts-append (puts-append (puts-append (first .put-count .ensures .0) (gap1 .put-bytes .ensures)) (second .put-count2 .ensures .0)) (gap2 .put-bytes2 .ensures))
+          (third .put-count3 .ensures .0)) (last .put-bytes3 .ensures),
       omega (
         arith,
         first .put-count .ensures .1,

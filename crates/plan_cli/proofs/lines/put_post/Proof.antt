@@ -2,13 +2,15 @@
 use native.Mathlib.Omega.{arith}
 use Rattle.integers.proofs.Ints.{back}
 use Rattle.integers.specs.Texts.{bytesOf}
-use Rattle.plan_cli.proofs.RunLines.{puts-post}
+use Rattle.text.proofs.PutBytes.{puts-append}
+use Rattle.plan_cli.specs.Lines.{postLine}
+use Rattle.plan_cli.proofs.RunLines.{puts-number}
 use borrow.Author.Needs.{needs}
 use Rattle.plan_cli.proofs.lines.put_post.Statement.{statement}
 use Rattle.plan_cli.proofs.lines.put_post.Tie as tie
 
 returns : tie.Need-returns
-unfolding bytesOf
+unfolding bytesOf postLine
 returns c =
     let end = c .before .before in
     let bound = end .before .before .before .before .before in
@@ -16,8 +18,8 @@ returns c =
     let task = space .before .before .before .before .before in
     let word = task .before .before .before .before in
     let s = word .before .before .before .before in (
-      puts-post (back (s .fits .task)) (back (s .fits .bound)) (word .put-bytes .ensures) (task .put-number .ensures .0) (space .put-bytes2 .ensures) (bound .put-number2 .ensures .0)
-          (end .put-bytes3 .ensures),
+      puts-append (puts-append (puts-append (puts-append (word .put-bytes .ensures) (puts-number (back (s .fits .task)) (task .put-number .ensures .0))) (space .put-bytes2 .ensures))
+          (puts-number (back (s .fits .bound)) (bound .put-number2 .ensures .0))) (end .put-bytes3 .ensures),
       omega (arith, word .put-bytes .ensures .end, space .put-bytes2 .ensures .end, end .put-bytes3 .ensures .end),
     )
 

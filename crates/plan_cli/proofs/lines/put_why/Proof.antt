@@ -1,14 +1,17 @@
 -- The five parts one after another are the line, and their widths add up to at most 33.
+use mathlib.Core.Path.{ap}
 use native.Mathlib.Omega.{arith}
 use Rattle.integers.proofs.Ints.{back}
 use Rattle.integers.specs.Texts.{bytesOf}
-use Rattle.plan_cli.proofs.RunLines.{puts-why}
+use Rattle.text.proofs.PutBytes.{puts-append}
+use Rattle.plan_cli.specs.Lines.{sign as signOf, whyLine}
+use Rattle.plan_cli.proofs.RunLines.{puts-as, puts-number}
 use borrow.Author.Needs.{needs}
 use Rattle.plan_cli.proofs.lines.put_why.Statement.{statement}
 use Rattle.plan_cli.proofs.lines.put_why.Tie as tie
 
 returns : tie.Need-returns
-unfolding bytesOf
+unfolding bytesOf whyLine
 returns c =
     let end = c .before .before in
     let value = end .before .before .before .before .before in
@@ -16,8 +19,8 @@ returns c =
     let variable = sign .before .before .before .before in
     let word = variable .before .before .before .before in
     let s = word .before .before .before .before in (
-      puts-why (back (s .fits .variable)) (back (s .fits .kind)) (back (s .fits .value)) (word .put-bytes .ensures) (variable .put-number .ensures .0) (sign .put-sign .ensures .0)
-          (value .put-number2 .ensures .0) (end .put-bytes2 .ensures),
+      puts-append (puts-append (puts-append (puts-append (word .put-bytes .ensures) (puts-number (back (s .fits .variable)) (variable .put-number .ensures .0)))
+          (puts-as (ap signOf (back (s .fits .kind))) (sign .put-sign .ensures .0))) (puts-number (back (s .fits .value)) (value .put-number2 .ensures .0))) (end .put-bytes2 .ensures),
       omega (arith, word .put-bytes .ensures .end, end .put-bytes2 .ensures .end),
     )
 

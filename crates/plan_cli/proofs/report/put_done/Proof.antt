@@ -1,19 +1,19 @@
 -- The three parts one after another are the line.
 use native.Mathlib.Omega.{arith}
 use Rattle.integers.specs.Texts.{bytesOf}
-use Rattle.plan_cli.proofs.Reports.{puts-done}
+use Rattle.text.proofs.PutBytes.{puts-append}
+use Rattle.plan_cli.specs.Lines.{doneLine}
 use borrow.Author.Needs.{needs}
 use Rattle.plan_cli.proofs.report.put_done.Statement.{statement}
 use Rattle.plan_cli.proofs.report.put_done.Tie as tie
 
 returns : tie.Need-returns
-unfolding bytesOf
+unfolding bytesOf doneLine
 returns c =
-    let start = c .before .before .before .before .before .before .before .before .before .before .before .before .before .before .before in
     let a = c .before .before .before .before .before .before .before .before .before .before .before .put-bytes .ensures in
     let b = c .before .before .before .before .before .before .before .put-starts .ensures in
     let e = c .before .before .put-bytes2 .ensures in
-    (puts-done (start .args .starts .now) a (b .0) e, omega (arith, a .end, b .1, e .end))
+    (puts-append (puts-append a (b .0)) e, omega (arith, a .end, b .1, e .end))
 
 pub put-done-spec : {M : Type 1} → statement M
 put-done-spec =
