@@ -29,7 +29,7 @@ use task_changes::changes::Change;
 
 // How a mirrored pass ended: kind 0 is Done, 1 Overload with the stretch of atom words that is its reason, 2 Emptied.
 #[repr(C)]
-#[derive(Drop)]
+#[derive(Clone, Copy)]
 pub struct MirroredAnswer {
     pub kind: u32,
     pub number: u32,
@@ -41,7 +41,7 @@ pub struct MirroredAnswer {
 // An answer with one count or task. Overload test: kind 0 is yes, with the tasks read, and 1 no. Page: kind 0 has its bytes. A conflict's page: kind 0 has
 // its bytes, and 1 is nothing found. Pass by precedences: kind 0 is Done, and 1 Emptied, with its task. Reason: kind 0 has its atoms.
 #[repr(C)]
-#[derive(Drop)]
+#[derive(Clone, Copy)]
 pub struct CountAnswer {
     pub kind: u32,
     pub number: u32,
@@ -50,7 +50,7 @@ pub struct CountAnswer {
 
 // A change of the record: kind 0 is made.
 #[repr(C)]
-#[derive(Drop)]
+#[derive(Clone, Copy)]
 pub struct ChangeAnswer {
     pub kind: u32,
     pub number: u32,
@@ -58,7 +58,7 @@ pub struct ChangeAnswer {
 
 // An answer with one start. Earliest free start: kind 0 has it. Bound by precedences: kind 0 has it, and 1 is none.
 #[repr(C)]
-#[derive(Drop)]
+#[derive(Clone, Copy)]
 pub struct StartAnswer {
     pub kind: u32,
     pub number: u32,
@@ -67,7 +67,7 @@ pub struct StartAnswer {
 
 // The busiest stretch: kind 0 has the covered time and the stretch's start.
 #[repr(C)]
-#[derive(Drop)]
+#[derive(Clone, Copy)]
 pub struct BusiestAnswer {
     pub kind: u32,
     pub number: u32,
@@ -78,7 +78,7 @@ pub struct BusiestAnswer {
 // A conflict: kind 0 is nothing found, 1 an overload, and 2 a late task, with its number, its latest start and its bound. The sets and their sums are the
 // call's.
 #[repr(C)]
-#[derive(Drop)]
+#[derive(Clone, Copy)]
 pub struct ConflictAnswer {
     pub kind: u32,
     pub number: u32,
@@ -93,7 +93,7 @@ pub struct ConflictAnswer {
 
 // The charges: kind 0 has the charges by task number, in cents, and their sum.
 #[repr(C)]
-#[derive(Drop)]
+#[derive(Clone, Copy)]
 pub struct ChargesAnswer {
     pub kind: u32,
     pub number: u32,

@@ -16,7 +16,7 @@ use runs::outcome::{Finished, Outcome};
 
 // A new record, and the number that refused its durations, or 0.
 #[repr(C)]
-#[derive(Drop)]
+#[derive(Clone, Copy)]
 pub struct NewPropagator {
     pub propagator: DisjunctivePropagator,
     pub number: u32,
@@ -25,7 +25,7 @@ pub struct NewPropagator {
 // How a run ended, and its leaf changes. Kind 0 is Done, 1 Overload, 2 Emptied, 3 Refused with its number. An overload has the stretch of atom words that is
 // its reason, as a post has. What a kind lacks is 0.
 #[repr(C)]
-#[derive(Drop)]
+#[derive(Clone, Copy)]
 pub struct RunAnswer {
     pub kind: u32,
     pub number: u32,
@@ -37,7 +37,7 @@ pub struct RunAnswer {
 
 // A post and the stretch of atom words that belongs to it: its first word and how many there are. All but the number is 0 where that is 11.
 #[repr(C)]
-#[derive(Drop)]
+#[derive(Clone, Copy)]
 pub struct PostAnswer {
     pub number: u32,
     pub task: i32,
@@ -48,7 +48,7 @@ pub struct PostAnswer {
 
 // Kind 0 is Passed, 1 Not passed, 2 a contradiction with its variable, 3 Refused with its number.
 #[repr(C)]
-#[derive(Drop)]
+#[derive(Clone, Copy)]
 pub struct CheckAnswer {
     pub kind: u32,
     pub number: u32,
@@ -58,7 +58,7 @@ pub struct CheckAnswer {
 // What a state says. Kind 0 is yes or a bound, 1 no, 2 a contradiction among the atoms, with its variable, 3 Refused with its number. A bound has a sign: -1
 // and 1 for the infinities, 0 for a value.
 #[repr(C)]
-#[derive(Drop)]
+#[derive(Clone, Copy)]
 pub struct StateAnswer {
     pub kind: u32,
     pub number: u32,

@@ -15,7 +15,7 @@ use integers::refused;
 use records::record::DisjunctivePropagator;
 
 // A stretch by the moment of its start, and the time of it that tasks cover.
-#[derive(Drop)]
+#[derive(Clone, Copy)]
 pub struct Stretch {
     pub covered: u32,
     pub start: u32,

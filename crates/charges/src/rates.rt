@@ -6,7 +6,7 @@ ghost use Rattle.charges.specs.Charges.{MINUTES};
 use integers::numbers::min;
 
 // A row of the tariff: the last hour that it is for, and what each hour begun of it costs, in cents.
-#[derive(Drop)]
+#[derive(Clone, Copy)]
 pub struct Row {
     pub upto: u32,
     pub cents: u32,

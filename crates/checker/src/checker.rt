@@ -17,7 +17,7 @@ use integers::refused;
 use records::record::creation_refusal;
 
 // The answer: a contradiction names the variable of the first failing atom.
-#[derive(Drop)]
+#[derive(Clone, Copy)]
 pub enum Verdict {
     Passed,
     NotPassed,
@@ -26,7 +26,7 @@ pub enum Verdict {
 }
 
 // Whether the formula is judged in the caller's time or in mirrored time.
-#[derive(Drop)]
+#[derive(Clone, Copy)]
 pub enum Direction {
     Forward,
     Mirrored,

@@ -11,7 +11,7 @@ use integers::numbers::{max64, min64};
 // The largest moment, with which the search for the least earliest start begins.
 const LARGEST: u64 = u32::MAX as u64;
 
-#[derive(Drop)]
+#[derive(Clone, Copy)]
 pub struct Interval {
     pub some: bool,
     pub lb_interval: u64,

@@ -1,4 +1,6 @@
 // The check of a run's reason and of a mirrored pass's reason, and the formula, which is exactly Vilím's.
+#![tactic(auto)]
+
 pub mod checker;
 mod formula;
 mod intervals;

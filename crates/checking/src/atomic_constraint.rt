@@ -8,7 +8,7 @@ ghost use Rattle.checking.specs.Atoms.{kind_of, atom_of, atom_from, atom_place, 
 use integers::limits::{VALUE, VARIABLES};
 use integers::numbers::nat_of;
 
-#[derive(Drop)]
+#[derive(Clone, Copy)]
 pub enum Comparison {
     GreaterEqual,
     LessEqual,
@@ -17,7 +17,7 @@ pub enum Comparison {
 }
 
 // The atom [identifier comparison value].
-#[derive(Drop)]
+#[derive(Clone, Copy)]
 pub struct AtomicConstraint {
     pub identifier: usize,
     pub comparison: Comparison,

@@ -9,7 +9,7 @@ use integers::moments::moment_of;
 use integers::numbers::max;
 
 // The lower bound's moment, and the complement of the upper bound's.
-#[derive(Drop)]
+#[derive(Clone, Copy)]
 pub struct BoundWords {
     pub lower: u32,
     pub upper: u32,

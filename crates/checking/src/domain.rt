@@ -13,7 +13,7 @@ use holes::hole_list;
 use integers::limits::HOLES;
 
 // The values that a variable may take: the holes are the first `count` places, ascending, and the others are 0.
-#[derive(Drop)]
+#[derive(Clone, Copy)]
 pub struct Domain {
     pub lower_bound: IntExt,
     pub upper_bound: IntExt,
@@ -22,7 +22,7 @@ pub struct Domain {
 }
 
 // What applying an atom did to its variable's domain: it left a value, it left none, or it needs a hole too many.
-#[derive(Drop)]
+#[derive(Clone, Copy)]
 pub enum Effect {
     Narrowed,
     Emptied,
@@ -30,7 +30,7 @@ pub enum Effect {
 }
 
 // The effect, and the domain after it, crossed where no value is left; where there is no room, the domain unchanged.
-#[derive(Drop)]
+#[derive(Clone, Copy)]
 pub struct Reduced {
     pub effect: Effect,
     pub domain: Domain,

@@ -2,7 +2,7 @@
 ghost use Rattle.std.specs.Prelude.{◌≡◌};
 ghost use Rattle.checking.specs.Domains.{le_ext, eq_ext};
 
-#[derive(Drop)]
+#[derive(Clone, Copy)]
 pub enum IntExt {
     Int(i32),
     NegativeInf,

@@ -14,7 +14,7 @@ use integers::limits::{PREMISES, TASKS, VARIABLES};
 use integers::refused;
 
 // What atoms applied to words answer. Words hold no hole, so that they end before an atom that can make one.
-#[derive(Drop)]
+#[derive(Clone, Copy)]
 pub enum OnWords {
     Consistent,
     Contradiction(usize),

@@ -10,7 +10,7 @@ use crate::variable_state::VariableState;
 use integers::limits::TASKS;
 
 // Both bounds of one start, where they are finite; else 0.
-#[derive(Drop)]
+#[derive(Clone, Copy)]
 pub struct TaskBounds {
     pub known: bool,
     pub est: u32,

@@ -18,13 +18,13 @@ use integers::numbers::nat_of;
 use integers::refused;
 
 // The domains of the variables, by number. An unmentioned variable may be any integer.
-#[derive(Drop)]
+#[derive(Clone, Copy)]
 pub struct VariableState {
     pub domains: [Domain; VARIABLES],
 }
 
 // What applying atoms answers: the contradiction names the variable of the failing atom.
-#[derive(Drop)]
+#[derive(Clone, Copy)]
 pub enum Application {
     Consistent,
     Contradiction(usize),
@@ -32,14 +32,14 @@ pub enum Application {
 }
 
 // The answer, and the state after it.
-#[derive(Drop)]
+#[derive(Clone, Copy)]
 pub struct Applied {
     pub answer: Application,
     pub state: VariableState,
 }
 
 // Whether every admitted value meets an atom.
-#[derive(Drop)]
+#[derive(Clone, Copy)]
 pub enum Truth {
     True,
     False,
@@ -47,14 +47,14 @@ pub enum Truth {
 }
 
 // A variable's bound.
-#[derive(Drop)]
+#[derive(Clone, Copy)]
 pub enum Bound {
     At(IntExt),
     Refused(u32),
 }
 
 // Which of the two bounds.
-#[derive(Drop)]
+#[derive(Clone, Copy)]
 pub enum Side {
     Lower,
     Upper,

@@ -1,4 +1,6 @@
 // The ect of a set of tasks, by the textbook's recurrence over the tasks by earliest start.
+#![tactic(auto)]
+
 ghost use Rattle.std.specs.Prelude.{◌≡◌, true, ◌+◌, ◌≤◌, max};
 ghost use Rattle.integers.specs.Limits.{U32MAX};
 ghost use Rattle.scheduling.specs.Scheduling.{natural, Tasks, TaskSet};

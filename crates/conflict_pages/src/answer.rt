@@ -1,5 +1,5 @@
 // How many bytes were written; that there is no conflict to write of; or the number that refused the page.
-#[derive(Drop)]
+#[derive(Clone, Copy)]
 pub enum ConflictPage {
     Written(usize),
     NothingFound,

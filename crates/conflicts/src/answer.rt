@@ -5,7 +5,7 @@ ghost use Rattle.conflicts.specs.Answers.{without_work, without_conflict};
 use integers::limits::TASKS;
 
 // No conflict; some set overloads its span; none does, and a task's bound passes its latest start; or the number that refused the input.
-#[derive(Drop)]
+#[derive(Clone, Copy)]
 pub enum Found {
     NothingFound,
     Overload,
@@ -19,7 +19,7 @@ pub enum Found {
 
 // A set of tasks, its earliest start and its processing time.
 #[repr(C)]
-#[derive(Drop)]
+#[derive(Clone, Copy)]
 pub struct Work {
     pub tasks: [bool; TASKS],
     pub est: i32,
@@ -28,7 +28,7 @@ pub struct Work {
 
 // In both conflicts est + p of the set is `excess` past `lct`. An overload's set is Ω, and lct is its own. A late task is in the set, lct is that of the
 // others in it, so that it comes after them; `before` are those of the others whose est + p is its bound. What a conflict does not have is empty and 0.
-#[derive(Drop)]
+#[derive(Clone, Copy)]
 pub struct Conflict {
     pub found: Found,
     pub set: Work,

@@ -9,7 +9,7 @@ use integers::limits::TASKS;
 use integers::moments::start_of;
 use integers::numbers::{max, min};
 
-#[derive(Drop)]
+#[derive(Clone, Copy)]
 pub struct Span {
     pub est: u32,
     pub lct: u32,

@@ -9,7 +9,7 @@ use records::record::DisjunctivePropagator;
 use sorts::sort_numbers;
 
 // Each task's earliest start, latest completion and duration, and the tasks by earliest start.
-#[derive(Drop)]
+#[derive(Clone, Copy)]
 pub struct TaskMoments {
     pub count: usize,
     pub est: [u32; TASKS],

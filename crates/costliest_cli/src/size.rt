@@ -8,7 +8,7 @@ use integers::limits::TASKS;
 use text::reading::Numbers;
 
 // A size, or other input.
-#[derive(Drop)]
+#[derive(Clone, Copy)]
 pub enum Asked {
     Size(usize),
     Wrong,

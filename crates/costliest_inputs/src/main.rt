@@ -1,5 +1,7 @@
 // The program `costliest` on further inputs.
 // Each input ends with a '%'. Its answer is written, and a '%' on a line after it.
+#![tactic(auto)]
+
 use costliest_cli::program::{ROOM, print};
 use libc::STDIN_FILENO;
 use plan_cli::inputs::{end_of, write_answer};

@@ -28,21 +28,21 @@ pub use crate::by_value::of_fixed_schedules::{busiest_stretch, charges, free_sta
 pub const RANGES: usize = 64;
 
 // The first `count` ranges are given to a call. A count above their number gives all of them, and so is refused for the count.
-#[derive(Drop)]
+#[derive(Clone, Copy)]
 pub struct Ranges {
     pub count: usize,
     pub ranges: [Range; RANGES],
 }
 
 // What a run answers, and the ranges that it leaves.
-#[derive(Drop)]
+#[derive(Clone, Copy)]
 pub struct Ran {
     pub finished: Finished,
     pub ranges: [Range; RANGES],
 }
 
 // What a mirrored pass answers, and the ranges that it leaves.
-#[derive(Drop)]
+#[derive(Clone, Copy)]
 pub struct RanMirrored {
     pub outcome: Outcome,
     pub ranges: [Range; RANGES],

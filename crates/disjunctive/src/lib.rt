@@ -4,6 +4,8 @@
 // On a fixed schedule: the page, the charges, the earliest free start, the busiest stretch.
 // Each of these that takes ranges has a form with plain parameters in `by_value`.
 // On words: the post reader, the check, the mirrored check, and the calls of the variable state.
+#![tactic(auto)]
+
 pub mod by_value;
 mod conflict_cores;
 mod cores;

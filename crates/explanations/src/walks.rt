@@ -26,7 +26,7 @@ pub fn of_leaf(xs: &[u32], reverse_mapping: &[usize; TASKS], place: LeafPlace) -
 }
 
 // The tasks of Θ from one leaf on, and how long they last.
-#[derive(Drop)]
+#[derive(Clone, Copy)]
 pub struct Suffix {
     pub first: LeafPlace,
     pub lasts: u32,

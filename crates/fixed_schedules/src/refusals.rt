@@ -10,7 +10,7 @@ use records::record::DisjunctivePropagator;
 use records::refusals::range_refusal;
 
 // The number that refuses a schedule; or 0, and the tasks by start.
-#[derive(Drop)]
+#[derive(Clone, Copy)]
 pub struct FixedOrder {
     pub number: u32,
     pub order: [usize; TASKS],

@@ -1,4 +1,6 @@
 // The least start from a moment on at which a further task overlaps no task of a fixed schedule.
+#![tactic(auto)]
+
 ghost use Rattle.std.specs.Prelude.{◌+◌, ◌≤◌};
 ghost use Rattle.integers.specs.Moments.{zero_at};
 ghost use Rattle.fixed_schedules.specs.Neighbours.{in_moments, Tested};
@@ -14,7 +16,7 @@ use integers::refused;
 use records::record::DisjunctivePropagator;
 
 // The start, or the number that refused the call.
-#[derive(Drop)]
+#[derive(Clone, Copy)]
 pub enum FreeStart {
     At(i32),
     Refused(u32),

@@ -1,4 +1,6 @@
 // Whether some set of tasks overloads: the tasks go into the theta tree by latest completion, least first, until those read overload.
+#![tactic(auto)]
+
 ghost use Rattle.std.specs.Prelude.{◌≡◌};
 ghost use Rattle.records.specs.Records.{moments_in};
 ghost use Rattle.records.specs.Refusals.{AcceptedInput};
@@ -15,7 +17,7 @@ use trees::disjunctive_task::{DisjunctiveTask, LocalId, leaf_of};
 use trees::theta_tree::ThetaTree;
 
 // Yes, with the number of tasks read; or the number that refused the input.
-#[derive(Drop)]
+#[derive(Clone, Copy)]
 pub enum Overload {
     Yes(usize),
     No,

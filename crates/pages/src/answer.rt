@@ -1,5 +1,5 @@
 // How many bytes were written, or the number that refused the page.
-#[derive(Drop)]
+#[derive(Clone, Copy)]
 pub enum Page {
     Written(usize),
     Refused(u32),

@@ -9,7 +9,7 @@ use integers::limits::TASKS;
 use text::reading::{KEPT, Numbers};
 
 // How many tasks the input has, or that it is no list of tasks.
-#[derive(Drop)]
+#[derive(Clone, Copy)]
 pub enum Counted {
     Tasks(usize),
     Wrong,

@@ -1,4 +1,6 @@
 // The program `plan`: its input as numbers, the run, and what is printed, to the byte.
+#![tactic(auto)]
+
 mod answer;
 pub mod input;
 pub mod inputs;

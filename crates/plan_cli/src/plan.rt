@@ -10,7 +10,7 @@ use records::record::{Creation, DisjunctivePropagator, create};
 use runs::outcome::Outcome;
 
 // What a run leaves beside its posts and atoms. The starts of the tasks stand in front.
-#[derive(Drop)]
+#[derive(Clone, Copy)]
 pub struct Planned {
     pub outcome: Outcome,
     pub starts: [i32; TASKS],

@@ -8,7 +8,7 @@ use libc::STDIN_FILENO;
 use text::reading::{Numbers, Scanner};
 
 // The scanner after one read, and whether the input goes on.
-#[derive(Drop)]
+#[derive(Clone, Copy)]
 pub struct Piece {
     pub scanner: Scanner,
     pub more: bool,

@@ -1,6 +1,8 @@
 // The program `plan` on further inputs.
 // Each input ends with a '%'. Its answer is written, and a '%' on a line after it.
 // The answers in `stdout` are the published Rust's, after the program's own reading of its input.
+#![tactic(auto)]
+
 use libc::STDIN_FILENO;
 use plan_cli::inputs::{end_of, write_answer};
 use plan_cli::program::{ROOM, print};

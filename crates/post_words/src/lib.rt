@@ -1,4 +1,6 @@
 // Posts and atoms as words: the place of each word, what writes them, and the post reader. It answers 0 or 11, and the stretch of atoms of a post.
+#![tactic(auto)]
+
 ghost use Rattle.std.specs.Prelude.{◌≡◌, [], ◌∷◌, ◌+◌, ◌*◌, ◌/◌, ◌^◌, ◌<◌, ◌≤◌, pos, nat_abs, length, take, drop, ◌≤ℤ◌};
 ghost use Rattle.std.proofs.lemmas.List.Edits.{sets};
 ghost use Rattle.integers.specs.Limits.{TASKS};

@@ -18,14 +18,14 @@ use post_words::{AT_LEAST, AT_MOST, write_atom};
 use records::record::DisjunctivePropagator;
 
 // How many atoms were written, or the number that refused the input.
-#[derive(Drop)]
+#[derive(Clone, Copy)]
 pub enum Reason {
     Written(usize),
     Refused(u32),
 }
 
 // The bound, where it is above the earliest start, or the number that refused the input.
-#[derive(Drop)]
+#[derive(Clone, Copy)]
 pub enum BoundAbove {
     At(i32),
     NoBound,

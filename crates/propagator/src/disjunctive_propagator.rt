@@ -29,7 +29,7 @@ use trees::disjunctive_task::{DisjunctiveTask, LeafPlace, LocalId, leaf_of, task
 use trees::theta_lambda_tree::{Responsible, ThetaLambdaTree};
 
 // What a run hands back: the record, how the run ended, and its leaf changes.
-#[derive(Drop)]
+#[derive(Clone, Copy)]
 pub struct Run {
     pub record: DisjunctivePropagator,
     pub outcome: Outcome,
@@ -345,7 +345,7 @@ fn leave_theta<'a>(
 }
 
 // The posts and the atoms written so far, and the leaf changes so far as the source makes them: it empties a leaf before it changes its colour.
-#[derive(Drop)]
+#[derive(Clone, Copy)]
 struct Written {
     posts: usize,
     atoms: usize,
@@ -428,7 +428,7 @@ impl Written {
 }
 
 // The tasks of Lambda were considered, or a post emptied a range.
-#[derive(Drop)]
+#[derive(Clone, Copy)]
 enum Turn {
     On(Written),
     Emptied(Written),

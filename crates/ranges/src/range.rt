@@ -3,7 +3,7 @@ use integers::limits::BARS;
 
 // A task may start from `earliest` to `latest`, but not at its barred starts: the first `count` places, ascending. The places past them are not read.
 #[repr(C)]
-#[derive(Drop)]
+#[derive(Clone, Copy)]
 pub struct Range {
     pub earliest: i32,
     pub latest: i32,

@@ -9,7 +9,7 @@ use crate::range::Range;
 use integers::limits::TASKS;
 
 // Ranges, taken apart: their numbers stand in the first `count` places, zeros after them.
-#[derive(Drop)]
+#[derive(Clone, Copy)]
 pub struct Starts {
     pub count: usize,
     pub earliest: [i32; TASKS],
@@ -17,7 +17,7 @@ pub struct Starts {
 }
 
 // Ranges, taken apart, and whether their bars fit.
-#[derive(Drop)]
+#[derive(Clone, Copy)]
 pub struct StartsWithBars {
     pub starts: Starts,
     pub bars_fit: bool,

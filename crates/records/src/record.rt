@@ -25,20 +25,20 @@ use integers::refused;
 //
 // Places of the durations from the count on are 0.
 #[repr(C)]
-#[derive(Drop)]
+#[derive(Clone, Copy)]
 pub struct DisjunctivePropagator {
     pub count: usize,
     pub durations: [u32; TASKS],
     pub total: u32,
 }
 
-#[derive(Drop)]
+#[derive(Clone, Copy)]
 pub enum Creation {
     Accepted,
     Refused(u32),
 }
 
-#[derive(Drop)]
+#[derive(Clone, Copy)]
 pub struct Created {
     pub record: DisjunctivePropagator,
     pub answer: Creation,

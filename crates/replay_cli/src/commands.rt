@@ -10,7 +10,7 @@ use replay_lines::state_commands::{answer_prepare, answer_query, answer_state};
 use replay_lines::words::{APPLY, CHECK_MIRRORED, CREATE, PREPARE, REMOVE, SHOW, number_of};
 
 // What is kept between commands.
-#[derive(Drop)]
+#[derive(Clone, Copy)]
 pub struct Session {
     pub made: bool,
     pub record: DisjunctivePropagator,

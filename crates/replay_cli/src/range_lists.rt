@@ -6,7 +6,7 @@ use replay_lines::lines::{STARTS, end_line, say_number, say_word};
 use replay_lines::parts::{list, number_at, place_of};
 
 // The ranges of a command: the first `count` of those that are kept. `valid` is false where the command is not understood.
-#[derive(Drop)]
+#[derive(Clone, Copy)]
 pub struct RangeList {
     pub valid: bool,
     pub count: usize,
@@ -14,7 +14,7 @@ pub struct RangeList {
 }
 
 // Which start of a range is said.
-#[derive(Drop)]
+#[derive(Clone, Copy)]
 pub enum StartBound {
     Earliest,
     Latest,

@@ -1,14 +1,14 @@
 // Standard input, read line by line.
 
 // A byte of the input, or the end of the input, where `more` is false.
-#[derive(Drop)]
+#[derive(Clone, Copy)]
 struct Byte {
     byte: u8,
     more: bool,
 }
 
 // How much of a line was read, and whether the input goes on.
-#[derive(Drop)]
+#[derive(Clone, Copy)]
 pub struct Line {
     pub held: usize,
     pub more: bool,

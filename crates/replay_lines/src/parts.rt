@@ -12,7 +12,7 @@ pub const WORDS: usize = 4096;
 pub const LISTS: usize = 64;
 
 // The numbers and the lists read so far, and the word that is being read.
-#[derive(Drop)]
+#[derive(Clone, Copy)]
 struct Scan {
     valid: bool,
     count: usize,

@@ -1,6 +1,6 @@
 // How a run ended, with the number of its posts: all tasks considered; a set of tasks overloads its span, with the first atom and the atom count
 // of its reason; the last post is above its task's latest start; or the number that refused the input.
-#[derive(Drop)]
+#[derive(Clone, Copy)]
 pub enum Outcome {
     Done(usize),
     Overload {
@@ -13,7 +13,7 @@ pub enum Outcome {
 }
 
 // How a run ended, and how many leaf changes the source would have made; 0 where the input was refused.
-#[derive(Drop)]
+#[derive(Clone, Copy)]
 pub struct Finished {
     pub outcome: Outcome,
     pub changes: usize,

@@ -9,13 +9,13 @@ use integers::limits::{DURATIONS, TASKS};
 use integers::refused;
 use records::record::{DisjunctivePropagator, lawful};
 
-#[derive(Drop)]
+#[derive(Clone, Copy)]
 pub enum Change {
     Made,
     Refused(u32),
 }
 
-#[derive(Drop)]
+#[derive(Clone, Copy)]
 pub struct Changed {
     pub record: DisjunctivePropagator,
     pub answer: Change,

@@ -26,7 +26,7 @@ const BEYOND: u32 = ZERO_AT + 1;
 const MOST: usize = usize::MAX;
 
 // The word that is being read.
-#[derive(Drop)]
+#[derive(Clone, Copy)]
 pub enum Word {
     // no byte of it yet
     Empty,
@@ -39,7 +39,7 @@ pub enum Word {
 }
 
 // What a word is once it has ended.
-#[derive(Drop)]
+#[derive(Clone, Copy)]
 pub enum Reading {
     // no word at all
     Nothing,
@@ -49,7 +49,7 @@ pub enum Reading {
 }
 
 // The numbers of the words that have ended.
-#[derive(Drop)]
+#[derive(Clone, Copy)]
 pub struct Numbers {
     // every word was a number; where one was not, all else is 0
     pub valid: bool,
@@ -60,7 +60,7 @@ pub struct Numbers {
 }
 
 // The state between two bytes of input: what has ended, and what has begun.
-#[derive(Drop)]
+#[derive(Clone, Copy)]
 pub struct Scanner {
     pub numbers: Numbers,
     pub word: Word,

@@ -5,7 +5,7 @@ ghost use Rattle.text.specs.Words.{white_run, run_length};
 use crate::reading::is_space;
 
 // What the bytes of a run are: white space, or those of a word.
-#[derive(Drop)]
+#[derive(Clone, Copy)]
 pub enum Run {
     Space,
     Word,

@@ -35,14 +35,14 @@ pub fn is_leaf(index: usize, number_of_internal_nodes: usize) -> bool
 }
 
 // The size of a tree: its inner nodes, and the levels above its leaves.
-#[derive(Drop)]
+#[derive(Clone, Copy)]
 pub struct Size {
     pub number_of_internal_nodes: usize,
     pub height: usize,
 }
 
 // The size of the tree of a run: its inner nodes, the levels above its leaves, and the leaves that have a task.
-#[derive(Drop)]
+#[derive(Clone, Copy)]
 pub struct TreeSize {
     pub inner: usize,
     pub height: usize,

@@ -5,15 +5,15 @@ ghost use Rattle.integers.specs.Limits.{TASKS};
 use integers::limits::TASKS;
 
 // The number of a task, which is also its start variable.
-#[derive(Drop)]
+#[derive(Clone, Copy)]
 pub struct LocalId(pub usize);
 
 // The place of a leaf, counted from the first leaf of a tree.
-#[derive(Drop)]
+#[derive(Clone, Copy)]
 pub struct LeafPlace(pub usize);
 
 // A task as a tree takes it: the lower bound of its start time, a moment, and its processing time.
-#[derive(Drop)]
+#[derive(Clone, Copy)]
 pub struct DisjunctiveTask {
     pub start_time: u32,
     pub processing_time: u32,

@@ -5,7 +5,7 @@ ghost use Rattle.trees.specs.Ects.{moment_of, decoded, exceeds, raised_to};
 use integers::numbers::max;
 
 // The source answers i32::MIN where there is no task.
-#[derive(Drop)]
+#[derive(Clone, Copy)]
 pub enum Ect {
     NoTask,
     At(u32),

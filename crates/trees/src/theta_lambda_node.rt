@@ -10,7 +10,7 @@ ghost use Rattle.trees.specs.SearchSteps.{AroundFits, step_at_p, step_at_ect};
 use integers::numbers::max;
 
 // A node which keeps track of the ect and the sum of processing times of the tasks below it, and of both if a single gray task can be added.
-#[derive(Drop)]
+#[derive(Clone, Copy)]
 pub struct Node {
     pub ect: u32,
     pub sum_of_processing_times: u32,
@@ -19,7 +19,7 @@ pub struct Node {
 }
 
 // Where the search by sums goes on.
-#[derive(Drop)]
+#[derive(Clone, Copy)]
 pub enum PDescent {
     Left,
     Right,
@@ -28,7 +28,7 @@ pub enum PDescent {
 }
 
 // Where the search by ects goes on: right by ects, right by sums, or left by ects.
-#[derive(Drop)]
+#[derive(Clone, Copy)]
 pub enum EctBarDescent {
     Right,
     RightP,
@@ -38,7 +38,7 @@ pub enum EctBarDescent {
 }
 
 // What a search reads at a node: a leaf, or an inner node with its children.
-#[derive(Drop)]
+#[derive(Clone, Copy)]
 pub enum Around {
     Leaf(Node),
     Inner(Node, Node, Node),

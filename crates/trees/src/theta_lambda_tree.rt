@@ -30,7 +30,7 @@ use integers::limits::{NODES, TASKS, TREEWORDS};
 const NOWHERE: usize = NODES;
 
 // The task responsible for the value of ect_bar, or none.
-#[derive(Drop)]
+#[derive(Clone, Copy)]
 pub enum Responsible {
     Task(LocalId),
     Nothing,
@@ -80,7 +80,7 @@ fn store_bars(nodes: &mut [u32; TREEWORDS], i: usize, n: Node)
 //
 // Bibliography
 // - [1] P. Vilím, ‘Filtering algorithms for the unary resource constraint’, Archives of Control Sciences, vol. 18, no. 2, pp. 159–202, 2008.
-#[derive(Drop)]
+#[derive(Clone, Copy)]
 pub struct ThetaLambdaTree {
     pub nodes: [u32; TREEWORDS],
     pub number_of_internal_nodes: usize,

@@ -6,7 +6,7 @@ ghost use Rattle.trees.specs.NodeBounds.{PlainFair, plain_size, Fits};
 use integers::numbers::max;
 
 // A node which keeps track of the ect and the sum of processing times of the tasks below it.
-#[derive(Drop)]
+#[derive(Clone, Copy)]
 pub struct Node {
     pub ect: u32,
     pub sum_of_processing_times: u32,

@@ -51,7 +51,7 @@ fn store(nodes: &mut [u32; THETAWORDS], i: usize, n: Node)
 //
 // Bibliography
 // - [1] P. Vilím, ‘Filtering algorithms for the unary resource constraint’, Archives of Control Sciences, vol. 18, no. 2, pp. 159–202, 2008.
-#[derive(Drop)]
+#[derive(Clone, Copy)]
 pub struct ThetaTree {
     pub nodes: [u32; THETAWORDS],
     pub number_of_internal_nodes: usize,

@@ -1,4 +1,6 @@
 // Why an instance cannot fit: an instance is read as `plan` reads it, and the page of its conflict is written.
+#![tactic(auto)]
+
 fn main() {
     why_cli::program::run();
 }

@@ -14,7 +14,7 @@ use ranges::range::Range;
 use records::record::DisjunctivePropagator;
 
 // What the pass answers, and the ranges that it leaves.
-#[derive(Drop)]
+#[derive(Clone, Copy)]
 pub struct RanPrecedences {
     pub answer: Precedences,
     pub ranges: [Range; RANGES],
