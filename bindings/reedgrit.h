@@ -1,5 +1,5 @@
 /* Edge finding on one machine, with a reason for each post, and the check of reasons: the functions of libreedgrit.a, which
- * `rt staticlib reedgrit` writes to target/staticlib for x86-64; a program is linked with
+ * `bindings/library` keeps in target/staticlib, for x86-64; a program is linked with
  *
  *     cc -Ibindings program.c target/staticlib/libreedgrit.a
  *

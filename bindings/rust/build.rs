@@ -1,4 +1,4 @@
-//! Links the static library that `rt staticlib reedgrit` writes. `REEDGRIT_LIB` names the folder that has it, where that is not the
+//! Links the static library that `bindings/library` keeps. `REEDGRIT_LIB` names the folder that has it, where that is not the
 //! repository's `target/staticlib`; a relative one counts from where the user stands.
 use std::env::var_os;
 use std::path::PathBuf;
@@ -14,7 +14,7 @@ fn main() {
     if !archive.exists() {
         // `cargo check` needs no archive.
         println!(
-            "cargo:warning={} is missing: run `rt staticlib reedgrit` at the repository's root, or let REEDGRIT_LIB name the folder that has libreedgrit.a",
+            "cargo:warning={} is missing: run `bindings/library` of the repository, or let REEDGRIT_LIB name the folder that has libreedgrit.a",
             archive.display()
         );
     }

@@ -9,7 +9,7 @@
 //!
 //! # How to use it
 //!
-//! `rt staticlib reedgrit`, at the repository's root, proves the library and writes it to `target/staticlib`, for x86-64. A crate of yours names this
+//! `bindings/library` of the repository proves the library and keeps it in `target/staticlib`, for x86-64. A crate of yours names this
 //! one by its folder; where the archive stands elsewhere, the environment variable `REEDGRIT_LIB` names that folder.
 //!
 //! ```toml
