@@ -15,7 +15,7 @@ use Rattle.integers.specs.WholeNumbers.{Within}
 use Rattle.integers.proofs.Bools.{bool, clash}
 use Rattle.integers.proofs.Ints.{ints, up, dn}
 use Rattle.integers.proofs.MomentSums.{at_moment, above_show, mono, mono<}
-use Rattle.holes.specs.Holes.{kept, above, below, first_at_or_after, last_at_or_before}
+use Rattle.holes.specs.Holes.{kept, first_at_or_after, last_at_or_before}
 use Rattle.checking.specs.declared.int_ext.IntExt.{IntExt}
 use Rattle.checking.specs.declared.int_ext.IntExt.TheVariants.{Int, NegativeInf, PositiveInf}
 use Rattle.checking.specs.declared.domain.Domain.{Domain}

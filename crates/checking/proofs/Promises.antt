@@ -39,8 +39,8 @@ use Rattle.checking.proofs.Meaning.{step_consistent, step_contradiction, step_re
 use Rattle.checking.proofs.States.{stepped_accepted, all_accepted, empty_accepted}
 
 -- ---- the empty state
-pub empty_promise : (r : VariableState) → r ≡ empty_state → (r ≡ empty_state) × EmptyMeans r
-empty_promise r e = (e, subst EmptyMeans (sym e) (record { any = empty_admits; again = state_accepted empty_state.domains empty_accepted }))
+pub empty_promise : (r : VariableState) → r ≡ empty_state → record { equals : r ≡ empty_state; means : EmptyMeans r }
+empty_promise r e = record { equals = e; means = subst EmptyMeans (sym e) (record { any = empty_admits; again = state_accepted empty_state.domains empty_accepted }) }
 
 -- ---- apply
 applied_as : {r t : Applied} → r ≡ t → AppliedAs t r
@@ -73,8 +73,8 @@ module _ (s : VariableState) (x k v : ℤ) (proper : accepted s.domains ≡ true
   apply_means = choice (ApplyMeans s x k v) (accepted s.domains)
       (λ p. choice (ApplyMeans s x k v) (right_atom x k v) (λ q. went p q) (λ q. is_refused 6 (rw (p, q)))) (λ p. is_refused 22 (rw p))
 
-  pub apply_promise : (r : Applied) → r ≡ applied_to s x k v → AppliedAs (applied_to s x k v) r × ApplyMeans s x k v r
-  apply_promise r e = (applied_as e, subst (ApplyMeans s x k v) (sym e) apply_means)
+  pub apply_promise : (r : Applied) → r ≡ applied_to s x k v → record { equals : AppliedAs (applied_to s x k v) r; means : ApplyMeans s x k v r }
+  apply_promise r e = record { equals = applied_as e; means = subst (ApplyMeans s x k v) (sym e) apply_means }
 
 -- ---- is_true
 module _ (s : VariableState) (x k v : ℤ) (proper : accepted s.domains ≡ true → AcceptedState s) where
@@ -97,8 +97,8 @@ module _ (s : VariableState) (x k v : ℤ) (proper : accepted s.domains ≡ true
       }))
       (λ q. truth_back 6 (rw (p, q)))) (λ p. truth_back 22 (rw p))
 
-  pub truth_promise : (r : Truth) → r ≡ truth_of s x k v → (numbers_of_truth r ≡ numbers_of_truth (truth_of s x k v)) × TruthMeans s x k v r
-  truth_promise r e = (ap numbers_of_truth e, subst (TruthMeans s x k v) (sym e) truth_means)
+  pub truth_promise : (r : Truth) → r ≡ truth_of s x k v → record { equals : numbers_of_truth r ≡ numbers_of_truth (truth_of s x k v); means : TruthMeans s x k v r }
+  truth_promise r e = record { equals = ap numbers_of_truth e; means = subst (TruthMeans s x k v) (sym e) truth_means }
 
 -- ---- bounds
 module _ (s : VariableState) (x : ℤ) (proper : accepted s.domains ≡ true → AcceptedState s) where
@@ -140,11 +140,11 @@ module _ (s : VariableState) (x : ℤ) (proper : accepted s.domains ≡ true →
         never = λ q. other_kind (refused_by n) (answered 0 (negsuc 0 ∷ [])) q (omega arith);
       })
 
-  pub lower_promise : (r : Bound) → r ≡ bound_of lower_of s x → (numbers_of_bound r ≡ numbers_of_bound (bound_of lower_of s x)) × LowerMeans s x r
-  lower_promise r e = (ap numbers_of_bound e, subst (LowerMeans s x) (sym e) lower_means)
+  pub lower_promise : (r : Bound) → r ≡ bound_of lower_of s x → record { equals : numbers_of_bound r ≡ numbers_of_bound (bound_of lower_of s x); means : LowerMeans s x r }
+  lower_promise r e = record { equals = ap numbers_of_bound e; means = subst (LowerMeans s x) (sym e) lower_means }
 
-  pub upper_promise : (r : Bound) → r ≡ bound_of upper_of s x → (numbers_of_bound r ≡ numbers_of_bound (bound_of upper_of s x)) × UpperMeans s x r
-  upper_promise r e = (ap numbers_of_bound e, subst (UpperMeans s x) (sym e) upper_means)
+  pub upper_promise : (r : Bound) → r ≡ bound_of upper_of s x → record { equals : numbers_of_bound r ≡ numbers_of_bound (bound_of upper_of s x); means : UpperMeans s x r }
+  upper_promise r e = record { equals = ap numbers_of_bound e; means = subst (UpperMeans s x) (sym e) upper_means }
 
 -- ---- prepare_for_conflict_check
 module _ (premises consequent : List ℤ) where
@@ -191,8 +191,8 @@ module _ (premises consequent : List ℤ) where
       (λ p. let l = ltb-false (3 * PREMISES + 2) (length premises) p in choice (PrepareMeans premises consequent) (right_lists premises consequent) (λ q. list_went l q)
       (λ q. list_back 6 (λ m. absurd (omega arith)) (λ _ _. refl) (λ _ r. clash r q)))
 
-  pub prepare_promise : (r : Applied) → r ≡ prepared premises consequent → AppliedAs (prepared premises consequent) r × PrepareMeans premises consequent r
-  prepare_promise r e = (applied_as e, subst (PrepareMeans premises consequent) (sym e) prepare_means)
+  pub prepare_promise : (r : Applied) → r ≡ prepared premises consequent → record { equals : AppliedAs (prepared premises consequent) r; means : PrepareMeans premises consequent r }
+  prepare_promise r e = record { equals = applied_as e; means = subst (PrepareMeans premises consequent) (sym e) prepare_means }
 
 -- ---- canonical: two accepted states admit the same values for every variable exactly when they are equal
 pub same_state : (s t : VariableState) → AcceptedState s → AcceptedState t → ((x : ℕ) → x < VARIABLES → (z : ℤ) → Admitted (domain_at s x) z ↔ Admitted (domain_at t x) z) → s ≡ t

@@ -24,7 +24,11 @@ application_at (suc (suc (suc k))) a = application.Refused a.number
 
 pub applications_apart : (r r' : Application) → application_numbers r ≡ application_numbers r' → r ≡ r'
 applications_apart = told_apart application_numbers (λ a. application_at a.kind a)
-    (λ r. elim r [ application.Consistent ↦ refl | application.Contradiction x ↦ refl | application.Refused n ↦ refl ])
+    (λ r. elim r as (λ k. application_at (application_numbers k).kind (application_numbers k) ≡ k) [
+      | application.Consistent ↦ refl
+      | application.Contradiction x ↦ refl
+      | application.Refused n ↦ refl
+    ])
 
 pub applied_apart : {r r' : Applied} → AppliedAs r' r → r ≡ r'
 applied_apart {r} {r'} e = λ i. record { answer = applications_apart r.answer r'.answer e.answer i; state = e.state i }
@@ -40,4 +44,5 @@ ext_at (pos (suc n)) z = PositiveInf
 ext_at (negsuc n) z = NegativeInf
 
 pub exts_apart : (b b' : IntExt) → numbers_of_ext b ≡ numbers_of_ext b' → b ≡ b'
-exts_apart = told_apart numbers_of_ext (λ a. ext_at (value_at a 0) (value_at a 1)) (λ b. elim b [ Int z ↦ refl | NegativeInf ↦ refl | PositiveInf ↦ refl ])
+exts_apart = told_apart numbers_of_ext (λ a. ext_at (value_at a 0) (value_at a 1))
+    (λ b. elim b as (λ k. ext_at (value_at (numbers_of_ext k) 0) (value_at (numbers_of_ext k) 1) ≡ k) [ Int z ↦ refl | NegativeInf ↦ refl | PositiveInf ↦ refl ])

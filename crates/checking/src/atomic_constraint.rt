@@ -5,7 +5,7 @@ ghost use Rattle.scheduling.specs.Scheduling.{negation};
 ghost use Rattle.integers.specs.WholeNumbers.{Within};
 ghost use Rattle.checking.specs.Atoms.{kind_of, atom_of, atom_from, atom_place, given_in, right_variable, right_atom, right_words, right_lists, right_from};
 
-use integers::limits::{VALUE, VARIABLES};
+use integers::limits::VARIABLES;
 use integers::numbers::nat_of;
 
 #[derive(Clone, Copy)]
@@ -64,10 +64,10 @@ pub fn atom_is_accepted(variable: i32, kind: i32, value: i32) -> bool
     if kind > 3 {
         return false;
     }
-    if value < -VALUE {
+    if value < -integers::limits::VALUE {
         return false;
     }
-    value <= VALUE
+    value <= integers::limits::VALUE
 }
 
 // Whether the words are a multiple of three, and every three of them an atom.

@@ -20,7 +20,7 @@ use Rattle.runs.specs.Traces.{Post}
 use Rattle.runs.specs.Runs.{State, run}
 use Rattle.runs.specs.Words.{reasons}
 use Rattle.runs.proofs.ReasonLengths.{conflict_length, propagation_length}
-use Rattle.runs.proofs.LevelSteps.{Measure, OutOk, run_ok, Inv, Found, Th, lam, AllGood}
+use Rattle.runs.proofs.LevelSteps.{Measure, OutOk, run_ok, Inv, Th, lam, AllGood}
 
 -- at most d of d leaves are white,
 pub theta_few : (white : ℕ → Bool) (task : ℕ → ℕ) (a d : ℕ) → length (theta_of white task a d) ≤ d

@@ -1,5 +1,5 @@
 -- The tasks that a reason names.
-use Rattle.std.specs.Prelude.{List, map, ℕ}
+use Rattle.std.specs.Prelude.{List, map}
 use Rattle.integers.specs.Orders.{has}
 use Rattle.scheduling.specs.Scheduling.{TaskSet, Atom}
 

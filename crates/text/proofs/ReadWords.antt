@@ -12,7 +12,6 @@ use lib.ListN.{length}
 use Rattle.integers.proofs.Bools.{bool, clash, and_true, and_false}
 use Rattle.text.specs.Numbers.{digit, digits, value, ranged, unsigned, number_of}
 use Rattle.text.specs.Scanner.{BEYOND, digit_after, next_of, given, reading_of}
-use Rattle.text.specs.declared.reading.Reading.TheVariants as reading
 use Rattle.text.specs.declared.reading.Word.TheVariants.{Empty, Digits, Wrong}
 use Rattle.text.proofs.Bytes.{after_digit, after_other, negative_over, positive_over}
 

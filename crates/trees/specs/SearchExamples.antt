@@ -1,5 +1,5 @@
 -- The search at small leaves, where two gray tasks serve equally.
-use Rattle.std.specs.Prelude.{◌≡◌, refl, List, [], ◌∷◌, ℕ, get_or}
+use Rattle.std.specs.Prelude.{◌≡◌, refl, [], ◌∷◌, get_or}
 use Rattle.std.proofs.Math.Option.{some}
 use Rattle.scheduling.specs.Scheduling.{natural, Tasks}
 use Rattle.trees.specs.Nodes.{join_of, is_empty}
@@ -7,7 +7,7 @@ use Rattle.trees.specs.Descents as descents
 use Rattle.trees.specs.Descents.{tested, descent_by_p, descent_by_ect}
 use Rattle.trees.specs.Searches.{step_p, step_ect, search_p, search_ect}
 use Rattle.trees.specs.Shapes.{width, height_from, node_over}
-use Rattle.trees.specs.Leaves.{Leaf, white, gray, responsible}
+use Rattle.trees.specs.Leaves.{white, gray, responsible}
 
 -- tasks by earliest start: 0 to 4 without a pause, and two of one unit each
 four : Tasks natural
