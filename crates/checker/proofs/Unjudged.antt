@@ -33,7 +33,7 @@ use Rattle.records.specs.Records.{duration_at, creation_tests}
 use Rattle.records.proofs.Creation.{created_lawful}
 use Rattle.checker.specs.Formulas.{bounded, implied, overloaded}
 use Rattle.checker.proofs.Formulas.{Reads, not_no, least_of, greatest_of, none_of}
-use Rattle.checker.specs.declared.checker.Verdict.TheVariants.{Contradiction, Refused}
+use Rattle.checker.specs.declared.checker.Verdict.TheVariants.{Contradiction}
 use Rattle.checker.specs.Checks.{verdict, concluded, tasks_with}
 use Rattle.checker.specs.declared.checker.Direction.{Direction}
 use Rattle.checker.specs.declared.checker.Direction.TheVariants.{Forward, Mirrored}

@@ -17,4 +17,4 @@ verdict_at (suc (suc zero)) a = Contradiction (nat_abs (get_or a.values 0 (pos 0
 verdict_at (suc (suc (suc k))) a = Refused a.number
 
 pub verdicts_apart : (r r' : Verdict) → numbers_of_verdict r ≡ numbers_of_verdict r' → r ≡ r'
-verdicts_apart = told_apart numbers_of_verdict (λ a. verdict_at a.kind a) (λ r. elim r [ Passed ↦ refl | NotPassed ↦ refl | Contradiction x ↦ refl | Refused n ↦ refl ])
+verdicts_apart = told_apart numbers_of_verdict (λ a. verdict_at a.kind a) (λ r. elim r as (λ k. verdict_at (numbers_of_verdict k).kind (numbers_of_verdict k) ≡ k) [ Passed ↦ refl | NotPassed ↦ refl | Contradiction x ↦ refl | Refused n ↦ refl ])

@@ -25,7 +25,7 @@ use Rattle.checking.specs.States.{prepared}
 use Rattle.checking.proofs.Bounds.{lower_near, upper_near}
 use Rattle.records.specs.Records.{duration_at, creation_tests, new_record}
 use Rattle.records.proofs.Creation.{created_lawful, same_sum}
-use Rattle.checker.specs.Formulas.{known, bounded, tasks, ◌but◌, overloads_span, comes_after, overloaded, implied}
+use Rattle.checker.specs.Formulas.{bounded, tasks, ◌but◌, overloads_span, comes_after, overloaded, implied}
 use Rattle.checker.specs.BoundArrays.{moment_mirrored, mirrored_bounds}
 use Rattle.checker.proofs.Formulas.{moments_proper}
 use Rattle.checker.proofs.MirroredBounds.{Near, sides, side_most, mirrored_known, mirrored_sides, moment_alike, mirrored_most}

@@ -6,7 +6,6 @@ use Prim.Native.Nat.{ℕ, ◌+◌, ◌*◌, ◌≤◌, ◌<◌}
 use native.Mathlib.Omega.{arith}
 use lib.IntN.{ℤ}
 use lib.ListN.{length}
-use borrow.Author.Tests.{not-true, not-false}
 use Rattle.integers.specs.Answers.{refused_by}
 use Rattle.integers.specs.Limits.{TASKS}
 use Rattle.integers.proofs.Bools.{clash}
@@ -78,12 +77,12 @@ module _ (r : DisjunctivePropagator) (es ls : List ℤ) (bars : Bool) (out : Lis
         of_each : length r.durations ≡ TASKS → OneLineEach r es ls (conflict_of r es ls) (tasks_of (conflict_of r es ls).set.tasks (length es))
         of_each long = subst (λ (d : Conflict). OneLineEach r es ls d (tasks_of d.set.tasks (length es))) same (one_line_each r es ls c (linable r es ls c out (pageable long)))
 
-        pub nothing_found : {out' : List ℕ} {b : Bool} → length r.durations ≡ TASKS → b ≡ shows c.found → not b ≡ true → out' ≡ out → ConflictPaged r es ls bars out NothingFound out'
+        pub nothing_found : {out' : List ℕ} {b : Bool} → length r.durations ≡ TASKS → b ≡ shows c.found → b ≡ false → out' ≡ out → ConflictPaged r es ls bars out NothingFound out'
         nothing_found long g h k = record {
           refused = λ not. absurd (not none);
           right = λ _. subst (ConflictFound r es ls bars) same x;
           nothing = λ _ _. record { answer = refl; keeps = k };
-          written = λ _ not. absurd (not (ap (λ (d : Conflict). d.found) (sym same) ∙ by c.found refl (sym g ∙ not-true _ h)));
+          written = λ _ not. absurd (not (ap (λ (d : Conflict). d.found) (sym same) ∙ by c.found refl (sym g ∙ h)));
           lines = λ _. of_each long;
         }
           where
@@ -93,12 +92,12 @@ module _ (r : DisjunctivePropagator) (es ls : List ℤ) (bars : Bool) (out : Lis
             by (found.Late i l b) g h = clash (ap shows g) h
             by (found.Refused n) g h = absurd (not_refused r es ls bars c x accepted n g)
 
-        pub page_written : {out' : List ℕ} {b : Bool} (n : ℕ) → length r.durations ≡ TASKS → b ≡ shows c.found → not b ≡ false → Puts out out' 0 (page_of r es ls c) n → n ≤ length out
+        pub page_written : {out' : List ℕ} {b : Bool} (n : ℕ) → length r.durations ≡ TASKS → b ≡ shows c.found → b ≡ true → Puts out out' 0 (page_of r es ls c) n → n ≤ length out
             → ConflictPaged r es ls bars out (Written n) out'
         page_written {out'} n long f h p fits = record {
           refused = λ not. absurd (not none);
           right = λ _. subst (ConflictFound r es ls bars) same x;
-          nothing = λ _ g. clash (sym f ∙ not-false _ h) (ap shows (ap (λ (d : Conflict). d.found) same ∙ g));
+          nothing = λ _ g. clash (sym f ∙ h) (ap shows (ap (λ (d : Conflict). d.found) same ∙ g));
           written = λ _ _. subst (λ (d : Conflict). PageLeft (page_of r es ls d) out (Written n) out') same left;
           lines = λ _. of_each long;
         }

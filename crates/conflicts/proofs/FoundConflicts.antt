@@ -31,7 +31,7 @@ use Rattle.overload_test.specs.ReadTasks.{answer_of}
 use Rattle.overload_test.specs.Numbers.{numbers_of_overload}
 use Rattle.overload_test.specs.Tested.{OverloadTested}
 use Rattle.conflicts.specs.declared.answer.Found.{Found}
-use Rattle.conflicts.specs.declared.answer.Found.TheVariants.{NothingFound, Overload, Late, Refused}
+use Rattle.conflicts.specs.declared.answer.Found.TheVariants.{NothingFound, Late, Refused}
 use Rattle.conflicts.specs.declared.answer.Conflict.{Conflict}
 use Rattle.conflicts.specs.declared.task_moments.TaskMoments.{TaskMoments}
 use Rattle.conflicts.specs.Answers.{without_conflict}

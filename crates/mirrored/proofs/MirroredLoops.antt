@@ -36,7 +36,8 @@ use Rattle.mirrored.specs.MirroredSlices.{mirrored_word, WordMirrorable, Duratio
 
 pub starts_filled : (ds : List ℕ) (zs out : List ℤ) → length zs ≡ length ds → length out ≡ length zs
     → filled (λ k. start_mirrored (get_or ds k 0) (get_or zs k (pos 0))) (length zs) out ≡ starts_mirrored ds zs
-starts_filled ds zs out e l = ext_get_or (pos 0) (filled (λ k. start_mirrored (get_or ds k 0) (get_or zs k (pos 0))) (length zs) out) (starts_mirrored ds zs) (size ∙ l ∙ e ∙ sym (mirror_length ds zs e))
+starts_filled ds zs out e l = ext_get_or (pos 0) (filled (λ k. start_mirrored (get_or ds k 0) (get_or zs k (pos 0))) (length zs) out) (starts_mirrored ds zs)
+    (size ∙ l ∙ e ∙ sym (mirror_length ds zs e))
     (λ k q. filled_at (λ k. start_mirrored (get_or ds k 0) (get_or zs k (pos 0))) (length zs) out (pos 0) k (omega (arith, size)) (omega arith) ∙ sym (mirror_at ds zs e k))
   where
     size : length (filled (λ k. start_mirrored (get_or ds k 0) (get_or zs k (pos 0))) (length zs) out) ≡ length out

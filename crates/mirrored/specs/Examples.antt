@@ -22,7 +22,8 @@ left z = (pass z).starts
 
 pub falls : map left (pos 0 ∷ pos (START - 2) ∷ neg_ℤ (pos (START - 10)) ∷ [])
     ≡ (pos 1 ∷ negsuc 0 ∷ []) ∷ (pos (START - 1) ∷ pos (START - 3) ∷ []) ∷ (neg_ℤ (pos (START - 11)) ∷ neg_ℤ (pos (START - 9)) ∷ []) ∷ []
-unfolding propagate run outer inner decoded conflict propagation bounds within tabulate height_from sort insert index numbers width root responsible theta join_of
+unfolding propagate run outer inner decoded conflict propagation bounds within tabulate height_from sort insert index
+    numbers width root responsible theta join_of
     is_empty gray tested descent_by_p descent_by_ect step_p step_ect search_p search_ect theta_of node_over
 falls = refl
 
@@ -34,6 +35,7 @@ pub mirrored_back : (pass (pos 0)).posts ≡ record {
   reason = record { variable = 0; kind = 1; value = pos 1 } ∷ record { variable = 0; kind = 0; value = pos 0 } ∷ record
       { variable = 1; kind = 1; value = pos 3 } ∷ [];
 } ∷ []
-unfolding propagate run outer inner decoded conflict propagation bounds within tabulate height_from sort insert index numbers width root responsible theta join_of
+unfolding propagate run outer inner decoded conflict propagation bounds within tabulate height_from sort insert index
+    numbers width root responsible theta join_of
     is_empty gray tested descent_by_p descent_by_ect step_p step_ect search_p search_ect theta_of node_over
 mirrored_back = refl

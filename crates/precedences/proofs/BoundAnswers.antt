@@ -27,7 +27,7 @@ use Rattle.trees.proofs.Ects.{raised_up}
 use Rattle.records.specs.declared.record.DisjunctivePropagator.{DisjunctivePropagator}
 use Rattle.records.specs.Records.{tasks_in, moments_in}
 use Rattle.records.specs.Refusals.{AcceptedInput}
-use Rattle.records.proofs.AcceptedTasks.{proper_whole, above}
+use Rattle.records.proofs.AcceptedTasks.{proper_whole}
 use Rattle.precedences.specs.PredecessorArrays.{bound_at, Boundable}
 use Rattle.precedences.proofs.AcceptedArrays.{boundable}
 use Rattle.precedences.proofs.Soundness.{bound_sound}

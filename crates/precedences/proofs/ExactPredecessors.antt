@@ -1,10 +1,10 @@
 -- P from both sides: a task is in P exactly where it is another one that no two starts from the ranges put at or after the end of i.
 use mathlib.Core.Path.{◌≡◌, ap}
-use mathlib.Core.Bool.{Bool, true, false, not}
+use mathlib.Core.Bool.{true, not}
 use mathlib.Core.Logic.{◌↔◌, inl, inr}
 use Prim.Native.Nat.{ℕ, ◌<◌}
 use lib.Dec.{eqb}
-use lib.IntN.{ℤ, pos, ◌+ℤ◌}
+use lib.IntN.{pos, ◌+ℤ◌}
 use lib.Signed.{lt_z, ≤ℤ_refl}
 use borrow.Author.Tests.{eqb-false, ne_eqb, not-true}
 use Rattle.integers.proofs.Bools.{bool, and_true, and_yes}

@@ -53,7 +53,8 @@ accepted_to far r es ls lawful counts from to ranges =
     }
 
 -- those of one that the core runs,
-pub accepted : (r : DisjunctivePropagator) (es ls : List ℤ) (post_count count_of_atoms : ℕ) → Runnable r es ls post_count count_of_atoms → demand.AcceptedTasks MIRRORED (take r.count r.durations) es ls
+pub accepted : (r : DisjunctivePropagator) (es ls : List ℤ) (post_count count_of_atoms : ℕ) → Runnable r es ls post_count count_of_atoms
+    → demand.AcceptedTasks MIRRORED (take r.count r.durations) es ls
 accepted r es ls post_count count_of_atoms a = accepted_to MIRRORED r es ls a.lawful a.counts a.from a.to a.ranges
 
 pub wider : (z : ℤ) → z ≤ℤ pos START → z ≤ℤ pos MIRRORED

@@ -180,4 +180,5 @@ module _ (o : ℕ) (J : Tasks natural) (ok : Proper J) (est_order lct_order : Li
   pub level_first : (t : ℕ) (st : State) → t < J.count → Entered o J est_order lct_order t st → (last : ℕ) → raised_to 0 (ect_bar_of J est_order st.leaves) ≤ last
       → last ≡ J.earliest (get_or lct_order t 0) + J.duration (get_or lct_order t 0) → (lct : ℕ) → lct < last
       → IsFirst J est_order (moved_onward o J est_order lct_order t st).leaves (get_or lct_order t 0) lct
-  level_first t st small e = is_first J ok est_order rk st.leaves (Th t) (lam st) (shape t st (at_head t st e) small) (get_or lct_order t 0) (steps.theta_some o J ok est_order lct_order rk ord t small)
+  level_first t st small e = is_first J ok est_order rk st.leaves (Th t) (lam st) (shape t st (at_head t st e) small) (get_or lct_order t 0)
+      (steps.theta_some o J ok est_order lct_order rk ord t small)

@@ -178,7 +178,8 @@ module _ {r : DisjunctivePropagator} {es ls : List ℤ} {post_count count_of_ato
     changes_most = omega (arith, d.changes, changes_most zero_at J proper est_order lct_order by_earliest_is ordered.by_completion_is accepted.some, count);
     starts = rw trace_is d.starts;
     post_words_are = d.post_words_are ∙ overwrites posts (post_words 0 (run zero_at J est_order lct_order).posts) (omega (arith, posts_fit, p)) ∙ ap (posts_after posts) (sym trace_is);
-    atom_words_are = d.atom_words_are ∙ overwrites atoms (atom_words (reasons (run zero_at J est_order lct_order).posts ++ end_reason (run zero_at J est_order lct_order).end)) (omega (arith, atoms_fit, q))
+    atom_words_are = d.atom_words_are ∙ overwrites atoms (atom_words (reasons (run zero_at J est_order lct_order).posts ++ end_reason (run zero_at J est_order lct_order).end))
+        (omega (arith, atoms_fit, q))
         ∙ ap (atoms_after atoms) (sym trace_is);
     posts_fit = rw trace_is (omega (arith, posts_fit, p));
     atoms_fit = rw trace_is (omega (arith, atoms_fit, q));

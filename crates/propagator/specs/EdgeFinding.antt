@@ -74,4 +74,5 @@ pub record EdgeFound (J : Tasks natural) (est_order lct_order : List ℕ) (posts
   pub changes : changed ≡ (run zero_at J est_order lct_order).changes
   pub starts : es' ≡ (run zero_at J est_order lct_order).starts
   pub post_words_are : posts' ≡ sets posts 0 (post_words 0 (run zero_at J est_order lct_order).posts)
-  pub atom_words_are : atoms' ≡ sets atoms 0 (atom_words (reasons (run zero_at J est_order lct_order).posts ++ end_reason (run zero_at J est_order lct_order).end))
+  pub atom_words_are : atoms'
+      ≡ sets atoms 0 (atom_words (reasons (run zero_at J est_order lct_order).posts ++ end_reason (run zero_at J est_order lct_order).end))
