@@ -1,4 +1,8 @@
 -- A struct of the calls beside the run gives its answer back, so different answers are different structs.
+use Rattle.answers.specs.declared.added_calls.BusiestAnswer.{BusiestAnswer}
+use Rattle.answers.specs.declared.added_calls.ChangeAnswer.{ChangeAnswer}
+use Rattle.answers.specs.declared.added_calls.CountAnswer.{CountAnswer}
+use Rattle.answers.specs.declared.added_calls.StartAnswer.{StartAnswer}
 use mathlib.Core.Path.{◌≡◌, refl}
 use Prim.Native.Nat.{ℕ, zero, suc}
 use lib.IntN.{ℤ}
@@ -36,7 +40,6 @@ use Rattle.precedences.specs.declared.reason.BoundAbove.TheVariants as bound
 use Rattle.precedences.specs.Numbers.{numbers_of_precedences}
 use Rattle.precedences.specs.ReasonNumbers.{numbers_of_reason, numbers_of_bound}
 use Rattle.runs.specs.declared.outcome.Outcome.{Outcome}
-use Rattle.runs.specs.declared.outcome.Outcome.TheVariants as outcome
 use Rattle.runs.specs.Outcomes.{outcome_numbers}
 use Rattle.busiest_stretch.specs.declared.answer.Busiest.{Busiest}
 use Rattle.busiest_stretch.specs.declared.answer.Busiest.TheVariants as busiest
@@ -50,20 +53,28 @@ pub mirrored_apart : (r r' : Outcome) → answer_of_mirrored (outcome_numbers r)
 mirrored_apart = told_apart (λ r. answer_of_mirrored (outcome_numbers r)) (λ a. outcome_from a.kind a.number a.posts a.first a.count) outcome_back
 
 -- The overload test
+abbrev overload_from : CountAnswer → Overload
+overload_from a = elim a.kind [ zero ↦ overload.Yes a.count | suc zero ↦ overload.No | suc (suc k) ↦ overload.Refused a.number ]
+
 pub overloads_apart : (r r' : Overload) → answer_of_count (numbers_of_overload r) ≡ answer_of_count (numbers_of_overload r') → r ≡ r'
 overloads_apart = told_apart (λ r. answer_of_count (numbers_of_overload r))
-    (λ a. elim a.kind [ zero ↦ overload.Yes a.count | suc zero ↦ overload.No | suc (suc k) ↦ overload.Refused a.number ])
-    (λ r. elim r [ overload.Yes k ↦ refl | overload.No ↦ refl | overload.Refused number ↦ refl ])
+    overload_from (λ r. elim r as (λ k. overload_from (answer_of_count (numbers_of_overload k)) ≡ k) [ overload.Yes k ↦ refl | overload.No ↦ refl | overload.Refused number ↦ refl ])
 
 -- A change
+abbrev change_from : ChangeAnswer → Change
+change_from a = elim a.kind [ zero ↦ change.Made | suc k ↦ change.Refused a.number ]
+
 pub changes_apart : (r r' : Change) → change_answer (numbers_of_change r) ≡ change_answer (numbers_of_change r') → r ≡ r'
-changes_apart = told_apart (λ r. change_answer (numbers_of_change r)) (λ a. elim a.kind [ zero ↦ change.Made | suc k ↦ change.Refused a.number ])
-    (λ r. elim r [ change.Made ↦ refl | change.Refused number ↦ refl ])
+changes_apart = told_apart (λ r. change_answer (numbers_of_change r))
+    change_from (λ r. elim r as (λ k. change_from (change_answer (numbers_of_change k)) ≡ k) [ change.Made ↦ refl | change.Refused number ↦ refl ])
 
 -- A page
+abbrev page_from : CountAnswer → Page
+page_from a = elim a.kind [ zero ↦ page.Written a.count | suc k ↦ page.Refused a.number ]
+
 pub pages_apart : (r r' : Page) → answer_of_count (numbers_of_page r) ≡ answer_of_count (numbers_of_page r') → r ≡ r'
-pages_apart = told_apart (λ r. answer_of_count (numbers_of_page r)) (λ a. elim a.kind [ zero ↦ page.Written a.count | suc k ↦ page.Refused a.number ])
-    (λ r. elim r [ page.Written bytes ↦ refl | page.Refused number ↦ refl ])
+pages_apart = told_apart (λ r. answer_of_count (numbers_of_page r))
+    page_from (λ r. elim r as (λ k. page_from (answer_of_count (numbers_of_page k)) ≡ k) [ page.Written bytes ↦ refl | page.Refused number ↦ refl ])
 
 -- Charges
 abbrev charges_from : TaskCharges → ℕ → ℕ → Charges
@@ -99,32 +110,47 @@ conflicts_apart = told_apart answer_of_conflict
     by (found.Late task latest bound) = refl
     by (found.Refused number) = refl
 
+abbrev conflict_page_from : CountAnswer → ConflictPage
+conflict_page_from a = elim a.kind [ zero ↦ sheet.Written a.count | suc zero ↦ sheet.NothingFound | suc (suc k) ↦ sheet.Refused a.number ]
+
 pub conflict_pages_apart : (r r' : ConflictPage) → answer_of_count (numbers_of_conflict_page r) ≡ answer_of_count (numbers_of_conflict_page r') → r ≡ r'
 conflict_pages_apart = told_apart (λ r. answer_of_count (numbers_of_conflict_page r))
-    (λ a. elim a.kind [ zero ↦ sheet.Written a.count | suc zero ↦ sheet.NothingFound | suc (suc k) ↦ sheet.Refused a.number ])
-    (λ r. elim r [ sheet.Written bytes ↦ refl | sheet.NothingFound ↦ refl | sheet.Refused number ↦ refl ])
+    conflict_page_from (λ r. elim r as (λ k. conflict_page_from (answer_of_count (numbers_of_conflict_page k)) ≡ k) [ sheet.Written bytes ↦ refl | sheet.NothingFound ↦ refl | sheet.Refused number ↦ refl ])
 
 -- A free start
+abbrev free_start_from : StartAnswer → FreeStart
+free_start_from a = elim a.kind [ zero ↦ free.At a.start | suc k ↦ free.Refused a.number ]
+
 pub free_starts_apart : (r r' : FreeStart) → answer_of_start (free_start_numbers r) ≡ answer_of_start (free_start_numbers r') → r ≡ r'
-free_starts_apart = told_apart (λ r. answer_of_start (free_start_numbers r)) (λ a. elim a.kind [ zero ↦ free.At a.start | suc k ↦ free.Refused a.number ])
-    (λ r. elim r [ free.At start ↦ refl | free.Refused number ↦ refl ])
+free_starts_apart = told_apart (λ r. answer_of_start (free_start_numbers r))
+    free_start_from (λ r. elim r as (λ k. free_start_from (answer_of_start (free_start_numbers k)) ≡ k) [ free.At start ↦ refl | free.Refused number ↦ refl ])
 
 -- The busiest stretch
+abbrev busiest_from : BusiestAnswer → Busiest
+busiest_from a = elim a.kind [ zero ↦ busiest.Stretch a.time a.start | suc k ↦ busiest.Refused a.number ]
+
 pub busiest_apart : (r r' : Busiest) → busiest_answer (numbers_of_busiest r) ≡ busiest_answer (numbers_of_busiest r') → r ≡ r'
-busiest_apart = told_apart (λ r. busiest_answer (numbers_of_busiest r)) (λ a. elim a.kind [ zero ↦ busiest.Stretch a.time a.start | suc k ↦ busiest.Refused a.number ])
-    (λ r. elim r [ busiest.Stretch time start ↦ refl | busiest.Refused number ↦ refl ])
+busiest_apart = told_apart (λ r. busiest_answer (numbers_of_busiest r))
+    busiest_from (λ r. elim r as (λ k. busiest_from (busiest_answer (numbers_of_busiest k)) ≡ k) [ busiest.Stretch time start ↦ refl | busiest.Refused number ↦ refl ])
 
 -- The pass by precedences, one task's bound, and its reason
+abbrev precedences_from : CountAnswer → Precedences
+precedences_from a = elim a.kind [ zero ↦ pass.Done | suc zero ↦ pass.Emptied a.count | suc (suc k) ↦ pass.Refused a.number ]
+
 pub precedences_apart : (r r' : Precedences) → answer_of_count (numbers_of_precedences r) ≡ answer_of_count (numbers_of_precedences r') → r ≡ r'
 precedences_apart = told_apart (λ r. answer_of_count (numbers_of_precedences r))
-    (λ a. elim a.kind [ zero ↦ pass.Done | suc zero ↦ pass.Emptied a.count | suc (suc k) ↦ pass.Refused a.number ])
-    (λ r. elim r [ pass.Done ↦ refl | pass.Emptied i ↦ refl | pass.Refused number ↦ refl ])
+    precedences_from (λ r. elim r as (λ k. precedences_from (answer_of_count (numbers_of_precedences k)) ≡ k) [ pass.Done ↦ refl | pass.Emptied i ↦ refl | pass.Refused number ↦ refl ])
+
+abbrev bound_from : StartAnswer → BoundAbove
+bound_from a = elim a.kind [ zero ↦ bound.At a.start | suc zero ↦ bound.NoBound | suc (suc k) ↦ bound.Refused a.number ]
 
 pub bounds_apart : (r r' : BoundAbove) → answer_of_start (numbers_of_bound r) ≡ answer_of_start (numbers_of_bound r') → r ≡ r'
 bounds_apart = told_apart (λ r. answer_of_start (numbers_of_bound r))
-    (λ a. elim a.kind [ zero ↦ bound.At a.start | suc zero ↦ bound.NoBound | suc (suc k) ↦ bound.Refused a.number ])
-    (λ r. elim r [ bound.At b ↦ refl | bound.NoBound ↦ refl | bound.Refused number ↦ refl ])
+    bound_from (λ r. elim r as (λ k. bound_from (answer_of_start (numbers_of_bound k)) ≡ k) [ bound.At b ↦ refl | bound.NoBound ↦ refl | bound.Refused number ↦ refl ])
+
+abbrev reason_from : CountAnswer → Reason
+reason_from a = elim a.kind [ zero ↦ reason.Written a.count | suc k ↦ reason.Refused a.number ]
 
 pub reasons_apart : (r r' : Reason) → answer_of_count (numbers_of_reason r) ≡ answer_of_count (numbers_of_reason r') → r ≡ r'
-reasons_apart = told_apart (λ r. answer_of_count (numbers_of_reason r)) (λ a. elim a.kind [ zero ↦ reason.Written a.count | suc k ↦ reason.Refused a.number ])
-    (λ r. elim r [ reason.Written count ↦ refl | reason.Refused number ↦ refl ])
+reasons_apart = told_apart (λ r. answer_of_count (numbers_of_reason r))
+    reason_from (λ r. elim r as (λ k. reason_from (answer_of_count (numbers_of_reason k)) ≡ k) [ reason.Written count ↦ refl | reason.Refused number ↦ refl ])

@@ -1,4 +1,6 @@
 -- A struct gives its answer back, so different answers are different structs.
+use Rattle.answers.specs.declared.source_calls.CheckAnswer.{CheckAnswer}
+use Rattle.answers.specs.declared.source_calls.StateAnswer.{StateAnswer}
 use mathlib.Core.Path.{◌≡◌, refl, sym, ap, ◌∙◌}
 use Prim.Native.Nat.{ℕ, zero, suc, ◌*◌, ◌/◌}
 use native.Mathlib.Omega.{arith}
@@ -52,31 +54,39 @@ runs_apart o o' c c' e = (
 
 -- Checks -----------------------------------------------------------------------------------------------------------------------
 
-pub checks_apart : (r r' : Verdict) → answer_of_check (numbers_of_verdict r) ≡ answer_of_check (numbers_of_verdict r') → r ≡ r'
-checks_apart = told_apart (λ r. answer_of_check (numbers_of_verdict r)) (λ a. elim a.kind [
+abbrev verdict_from : CheckAnswer → Verdict
+verdict_from a = elim a.kind [
   | zero ↦ verdict.Passed
   | suc zero ↦ verdict.NotPassed
   | suc (suc zero) ↦ verdict.Contradiction a.variable
   | suc (suc (suc k)) ↦ verdict.Refused a.number
-]) (λ r. elim r [ verdict.Passed ↦ refl | verdict.NotPassed ↦ refl | verdict.Contradiction x ↦ refl | verdict.Refused number ↦ refl ])
+]
+
+pub checks_apart : (r r' : Verdict) → answer_of_check (numbers_of_verdict r) ≡ answer_of_check (numbers_of_verdict r') → r ≡ r'
+checks_apart = told_apart (λ r. answer_of_check (numbers_of_verdict r))
+    verdict_from (λ r. elim r as (λ k. verdict_from (answer_of_check (numbers_of_verdict k)) ≡ k) [ verdict.Passed ↦ refl | verdict.NotPassed ↦ refl | verdict.Contradiction x ↦ refl | verdict.Refused number ↦ refl ])
 
 -- Queries of a state ---------------------------------------------------------------------------------------------------------
 
 -- is_true, and what comes of premises that lead to no state
+abbrev truth_from : StateAnswer → Truth
+truth_from a = elim a.kind [ zero ↦ truth.True | suc zero ↦ truth.False | suc (suc k) ↦ truth.Refused a.number ]
+
 pub state_truths_apart : (r r' : Truth) → state_answer (numbers_of_truth r) ≡ state_answer (numbers_of_truth r') → r ≡ r'
 state_truths_apart = told_apart (λ r. state_answer (numbers_of_truth r))
-    (λ a. elim a.kind [ zero ↦ truth.True | suc zero ↦ truth.False | suc (suc k) ↦ truth.Refused a.number ])
-    (λ r. elim r [ truth.True ↦ refl | truth.False ↦ refl | truth.Refused number ↦ refl ])
+    truth_from (λ r. elim r as (λ k. truth_from (state_answer (numbers_of_truth k)) ≡ k) [ truth.True ↦ refl | truth.False ↦ refl | truth.Refused number ↦ refl ])
+
+abbrev application_from : StateAnswer → Application
+application_from a = elim a.kind [
+  | zero ↦ application.Consistent
+  | suc zero ↦ application.Consistent
+  | suc (suc zero) ↦ application.Contradiction a.variable
+  | suc (suc (suc k)) ↦ application.Refused a.number
+]
 
 pub state_applications_apart : (r r' : Application) → state_answer (application_numbers r) ≡ state_answer (application_numbers r') → r ≡ r'
 state_applications_apart = told_apart (λ r. state_answer (application_numbers r))
-    (λ a. elim a.kind [
-      | zero ↦ application.Consistent
-      | suc zero ↦ application.Consistent
-      | suc (suc zero) ↦ application.Contradiction a.variable
-      | suc (suc (suc k)) ↦ application.Refused a.number
-    ])
-    (λ r. elim r [ application.Consistent ↦ refl | application.Contradiction x ↦ refl | application.Refused number ↦ refl ])
+    application_from (λ r. elim r as (λ k. application_from (state_answer (application_numbers k)) ≡ k) [ application.Consistent ↦ refl | application.Contradiction x ↦ refl | application.Refused number ↦ refl ])
 
 -- a bound: an infinity's sign, or 0 and the whole number
 abbrev ext_from : ℤ → ℤ → IntExt
@@ -84,6 +94,9 @@ ext_from (pos zero) z = Int z
 ext_from (pos (suc n)) z = PositiveInf
 ext_from (negsuc n) z = NegativeInf
 
+abbrev state_bound_from : StateAnswer → Bound
+state_bound_from a = elim a.kind [ zero ↦ bound.At (ext_from a.infinity a.value) | suc k ↦ bound.Refused a.number ]
+
 pub state_bounds_apart : (r r' : Bound) → state_answer (numbers_of_bound r) ≡ state_answer (numbers_of_bound r') → r ≡ r'
-state_bounds_apart = told_apart (λ r. state_answer (numbers_of_bound r)) (λ a. elim a.kind [ zero ↦ bound.At (ext_from a.infinity a.value) | suc k ↦ bound.Refused a.number ])
-    (λ r. elim r [ bound.At (Int z) ↦ refl | bound.At NegativeInf ↦ refl | bound.At PositiveInf ↦ refl | bound.Refused number ↦ refl ])
+state_bounds_apart = told_apart (λ r. state_answer (numbers_of_bound r))
+    state_bound_from (λ r. elim r as (λ k. state_bound_from (state_answer (numbers_of_bound k)) ≡ k) [ bound.At (Int z) ↦ refl | bound.At NegativeInf ↦ refl | bound.At PositiveInf ↦ refl | bound.Refused number ↦ refl ])

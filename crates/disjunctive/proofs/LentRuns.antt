@@ -1,7 +1,7 @@
 -- What the cores leave of ranges that are taken apart is, stored back, what the calls on lent ranges promise.
 use mathlib.Core.List.{List, [], ◌++◌}
 use mathlib.Core.Path.{◌≡◌, refl, sym, subst, ◌∙◌}
-use Prim.Native.Nat.{ℕ, ◌<◌}
+use Prim.Native.Nat.{ℕ, ◌≤◌, ◌<◌}
 use native.Mathlib.Omega.{arith}
 use lib.IntN.{ℤ, pos}
 use lib.ListN.{length, take, drop, replicate, length-map}
@@ -19,7 +19,7 @@ use Rattle.ranges.specs.declared.range.Range.{Range}
 use Rattle.ranges.specs.Bars.{all_bars_are_fit}
 use Rattle.ranges.specs.Ranges.{earliests, latests, with_starts, with_latests}
 use Rattle.ranges.proofs.StoredStarts.{with_none, own_starts, latest_none, own_latests}
-use Rattle.ranges.specs.TakenApart.{TakenInto}
+use Rattle.ranges.specs.TakenApart.{taken, TakenInto}
 use Rattle.ranges.proofs.TakenApart.{taken_fits, taken_starts, stored}
 use Rattle.promises.specs.RanLent.{RanLent}
 use Rattle.promises.specs.RanMirroredLent.{RanMirroredLent}
@@ -67,3 +67,18 @@ module _ (before : DisjunctivePropagator) (ys : List Range) (n : ℕ) (es ls : L
       (latests ys) (length-map ys (λ (y : Range). y.latest)) (latest_none ys) (own_latests ys)
       (λ h a. too_many_mirrored before (earliests ys) (latests ys) (all_bars_are_fit ys) (all_bars_are_fit ys) posts atoms _ [] posts' atoms' h a) in
       rw (are ∙ stays) (lent_mirrored before ys posts atoms r us posts' atoms' size ran)
+
+-- the first n places of an array of numbers: they are there, and so they are once a core has left others in them
+module _ (ys : List Range) (n : ℕ) (count : n ≡ taken (length ys)) (us : List ℤ) (all : length us ≡ TASKS) where
+  pub places_there : n ≤ length us
+  places_there = omega (arith, taken_fits (length ys))
+
+  pub places_lent : n ≡ length (take n us)
+  places_lent = sym (length-take-le n us places_there)
+
+  module _ (zs : List ℤ) (same : length zs ≡ length (take n us)) where
+    pub left_there : n ≤ length (zs ++ drop n us)
+    left_there = omega (arith, same_len n us zs same, places_there)
+
+    pub left_lent : n ≡ length (take n (zs ++ drop n us))
+    left_lent = sym (length-take-le n (zs ++ drop n us) left_there)

@@ -1,4 +1,2 @@
-mod AllPlaces
-pub mod Locals
 pub mod LentRuns
-pub mod Routines
+pub mod ReadRanges

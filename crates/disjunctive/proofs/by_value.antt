@@ -1,4 +1,1 @@
 mod LentCounts
-mod LocalRanges
-mod Loans
-mod PlainCalls

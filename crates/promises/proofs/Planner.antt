@@ -68,7 +68,7 @@ pass_keeps {before} {after} {ranges} {ranges'} (mirrored posts atoms answer post
 pass_keeps {before} {after} {ranges} {ranges'} (precedences answer ran) = precedences_keep before ranges ranges' ran
 
 -- ---- any passes
-pub no_plan_lost : {first last : DisjunctivePropagator} {ranges ranges' : List Range} → Passes first ranges last ranges' → NoPlanLost first ranges last ranges'
+pub no_plan_lost : {first : DisjunctivePropagator} {ranges : List Range} {last : DisjunctivePropagator} {ranges' : List Range} → Passes first ranges last ranges' → NoPlanLost first ranges last ranges'
 no_plan_lost start s p = p
 no_plan_lost (next passes pass) s p = pass_keeps pass s (no_plan_lost passes s p)
 

@@ -1,42 +1,23 @@
--- The bars from place i on, as the loops over the places meet them, and a step by one.
+-- The bars from place i on, as the loops over the places meet them.
 use mathlib.Core.Path.{◌≡◌, refl, sym, ap, ◌∙◌}
-use mathlib.Core.Bool.{Bool, true, false, not, cond, ◌&&◌, ◌||◌}
+use mathlib.Core.Bool.{Bool, true, false, not, ◌&&◌, ◌||◌}
 use mathlib.Core.List.{List, [], ◌∷◌}
 use Prim.Native.Nat.{ℕ, suc, ◌+◌, ◌-◌, ◌≤◌, ◌<◌}
 use native.Mathlib.Omega.{arith}
 use native.Mathlib.Numerals.{add-one}
-use lib.IntN.{ℤ, pos, negsuc, ◌+ℤ◌}
-use lib.ListN.{length, get_or, drop, length-map, length-take, length-drop, drop_of_length-le}
+use lib.IntN.{ℤ, pos}
+use lib.ListN.{length, get_or, drop, length-take, length-drop, drop_of_length-le}
 use lib.Seq.{drop-cons, get_or-take, length-take-le}
-use lib.Signed.{lt_z, ◌<ℤ◌}
-use mir.Syntax.{w32}
-use mir.Val.{Val, SFits, to_z, of_z}
-use denote.Laws.{Is}
-use denote.Struct.Laws as LL
+use lib.Signed.{lt_z}
 use Rattle.integers.specs.Limits.{BARS}
-use Rattle.integers.proofs.Ints.{ints, up, dn, sumℤ, fits_show, in_range, back, same_bits}
 use Rattle.integers.specs.WholeNumbers.{eq_z, has}
-use Rattle.integers.proofs.WholeNumbers.{same_eq_z, other_eq_z}
 use Rattle.ranges.specs.declared.range.Range.{Range}
 use Rattle.ranges.specs.Bars.{bars_of, ascends, is_inside, bars_are_fit, all_bars_are_fit}
-use Rattle.ranges.specs.Ranges.{any_range}
 use Rattle.ranges.proofs.BarTests.{fit_few}
-use Rattle.ranges.specs.contracts.range.Range as T
-use Rattle.ranges.proofs.range.Range.TheLaws as T'
 
--- how many there are, from what a call is told of a range that it is given
-module _ (y : Range) {vs : List Val} (is : Is T.the_row y vs) where
-  room : length y.barred ≡ BARS
-  room = sym (length-map y.barred (λ (b : ℤ). b)) ∙ (LL.owed T.the_type T'.the_laws y vs is).1.1.1.0.1.0.1
-
-  pub bars_length : y.count ≤ BARS → length (bars_of y) ≡ y.count
-  bars_length h = length-take-le y.count y.barred (omega (arith, room))
-
-  pub bars_full : BARS < y.count → length (bars_of y) ≡ BARS
-  bars_full h = omega (arith, room, length-take y.count y.barred)
-
-  pub bars_fewer : length (bars_of y) ≤ BARS
-  bars_fewer = omega (arith, room, length-take y.count y.barred)
+-- how many there are
+pub bars_length : (y : Range) → length y.barred ≡ BARS → y.count ≤ BARS → length (bars_of y) ≡ y.count
+bars_length y room h = length-take-le y.count y.barred (omega (arith, room))
 
 -- the bar at place i, and those past it
 module _ (y : Range) (i : ℕ) (small : i < length (bars_of y)) where
@@ -107,31 +88,10 @@ module _ (y : Range) where
   fit_end i one h = rw (ascends_end (bars_of y) i one h, has_end (bars_of y) i y.earliest h, has_end (bars_of y) i y.latest h)
 
 -- ---- the ranges from place i on
-pub all_on : (ys : List Range) (i : ℕ) → i < length ys → all_bars_are_fit (drop i ys) ≡ bars_are_fit (get_or ys i any_range) && all_bars_are_fit (drop (suc i) ys)
+pub all_on : (ys : List Range) (i : ℕ) (d : Range) → i < length ys → all_bars_are_fit (drop i ys) ≡ bars_are_fit (get_or ys i d) && all_bars_are_fit (drop (i + 1) ys)
 unfolding all_bars_are_fit
-all_on ys i h = ap all_bars_are_fit (drop-cons ys i any_range h)
+all_on ys i d h = rw (add-one i) (ap all_bars_are_fit (drop-cons ys i d h))
 
-pub all_end : (ys : List Range) → all_bars_are_fit (drop (length ys) ys) ≡ true
+pub all_end : (ys : List Range) (i : ℕ) → length ys ≤ i → all_bars_are_fit (drop i ys) ≡ true
 unfolding all_bars_are_fit
-all_end ys = ap all_bars_are_fit (drop_of_length-le ys {i = length ys} (omega arith))
-
--- a start that goes by one towards another is inside an i32 as both are
-module _ (z to : ℤ) (fits : SFits w32 z) (there : SFits w32 to) where
-  pub one_on : z <ℤ to → SFits w32 (z +ℤ pos 1)
-  unfolding up dn
-  one_on h = fits_show w32 (z +ℤ pos 1) (omega (ints, sumℤ z (pos 1), in_range fits, in_range there)) (omega (ints, sumℤ z (pos 1), in_range fits))
-
-  pub one_back : to <ℤ z → SFits w32 (z +ℤ negsuc 0)
-  unfolding up dn
-  one_back h = fits_show w32 (z +ℤ negsuc 0) (omega (ints, sumℤ z (negsuc 0), in_range fits)) (omega (ints, sumℤ z (negsuc 0), in_range fits, in_range there))
-
--- what is answered for a start and a bar, each as it was read: a step by d where they are the same and the test lets the start go, and else the start
-module _ (bar : ℤ) {start : ℤ} (fits : SFits w32 start) (lets : Bool) (d : ℤ) where
-  pub goes : SFits w32 bar → of_z w32 bar ≡ of_z w32 start → lets ≡ true → SFits w32 (start +ℤ d) → to_z w32 (of_z w32 (to_z w32 (of_z w32 start) +ℤ d)) ≡ cond (eq_z bar start && lets) (start +ℤ d) start
-  goes there same go next = rw (same_eq_z (same_bits w32 there fits same), go) (ap (λ (z : ℤ). to_z w32 (of_z w32 (z +ℤ d))) (back fits) ∙ back next)
-
-  pub stays : SFits w32 bar → of_z w32 bar ≡ of_z w32 start → lets ≡ false → to_z w32 (of_z w32 start) ≡ cond (eq_z bar start && lets) (start +ℤ d) start
-  stays there same stay = rw (same_eq_z (same_bits w32 there fits same), stay) (back fits)
-
-  pub meets_no_bar : (of_z w32 bar ≡ of_z w32 start → ⊥) → to_z w32 (of_z w32 start) ≡ cond (eq_z bar start && lets) (start +ℤ d) start
-  meets_no_bar apart = rw (other_eq_z (λ e. apart (ap (of_z w32) e))) (back fits)
+all_end ys i h = ap all_bars_are_fit (drop_of_length-le ys {i = i} h)

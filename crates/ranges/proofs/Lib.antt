@@ -1,12 +1,6 @@
-pub mod Prelude
-pub mod Calls
 pub mod BarTests
 pub mod MovedStarts
 pub mod AlikeRanges
 pub mod StoredStarts
 pub mod BarsFrom
 pub mod TakenApart
-pub mod LocalRows
-pub mod CountedLoops
-pub mod ValueCalls
-pub mod LocalCells

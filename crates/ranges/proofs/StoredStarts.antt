@@ -1,8 +1,9 @@
 -- Earliest and latest starts stored in ranges: what a turn of the loop does, and what stays.
 use mathlib.Core.Path.{◌≡◌, refl, sym, ap}
 use mathlib.Core.List.{List, [], ◌∷◌, map, head-eq_of_cons-eq, tail-eq_of_cons-eq, cons-ne-nil}
-use Prim.Native.Nat.{ℕ, zero, suc, ◌<◌}
+use Prim.Native.Nat.{ℕ, zero, suc, ◌+◌, ◌<◌}
 use native.Mathlib.Omega.{arith}
+use native.Mathlib.Numerals.{add-one}
 use lib.IntN.{ℤ, pos}
 use lib.ListN.{length, get_or, set, take}
 use Rattle.ranges.specs.declared.range.Range.{Range}
@@ -17,19 +18,14 @@ pub record Stores (one : Range → ℤ → Range) (with : List Range → List �
   pub first : (y : Range) (ys : List Range) (z : ℤ) (zs : List ℤ) → with (y ∷ ys) (z ∷ zs) ≡ one y z ∷ with ys zs
 
 module _ {one : Range → ℤ → Range} {with : List Range → List ℤ → List Range} (stores : Stores one with) where
-  pub stored_length : (ys : List Range) (zs : List ℤ) → length (with ys zs) ≡ length ys
-  stored_length [] zs = rw (stores.no_range zs)
-  stored_length (y ∷ ys) [] = rw (stores.none (y ∷ ys))
-  stored_length (y ∷ ys) (z ∷ zs) = rw (stores.first y ys z zs) (ap suc (stored_length ys zs))
-
   -- one more number is stored
-  pub stored_more : (ys : List Range) (zs : List ℤ) (i : ℕ) → i < length ys → i < length zs
-      → set (with ys (take i zs)) i (one (get_or (with ys (take i zs)) i any_range) (get_or zs i (pos 0))) ≡ with ys (take (suc i) zs)
-  stored_more [] zs i h k = absurd (omega arith)
-  stored_more (y ∷ ys) [] i h k = absurd (omega arith)
-  stored_more (y ∷ ys) (z ∷ zs) zero h k = rw (stores.none (y ∷ ys), stores.first y ys z [], stores.none ys)
-  stored_more (y ∷ ys) (z ∷ zs) (suc i) h k =
-      rw (stores.first y ys z (take i zs), stores.first y ys z (take (suc i) zs)) (ap (λ (us : List Range). one y z ∷ us) (stored_more ys zs i (omega arith) (omega arith)))
+  pub stored_more : (ys : List Range) (zs : List ℤ) (i : ℕ) (d : Range) → i < length ys → i < length zs
+      → set (with ys (take i zs)) i (one (get_or (with ys (take i zs)) i d) (get_or zs i (pos 0))) ≡ with ys (take (suc i) zs)
+  stored_more [] zs i d h k = absurd (omega arith)
+  stored_more (y ∷ ys) [] i d h k = absurd (omega arith)
+  stored_more (y ∷ ys) (z ∷ zs) zero d h k = rw (stores.none (y ∷ ys), stores.first y ys z [], stores.none ys)
+  stored_more (y ∷ ys) (z ∷ zs) (suc i) d h k =
+      rw (stores.first y ys z (take i zs), stores.first y ys z (take (suc i) zs)) (ap (λ (us : List Range). one y z ∷ us) (stored_more ys zs i d (omega arith) (omega arith)))
 
   stored_at : (f : Range → ℤ) (ys : List Range) (zs : List ℤ) (k : ℕ) → k < length ys → k < length zs → get_or (map f (with ys zs)) k (pos 0) ≡ f (one (get_or ys k any_range) (get_or zs k (pos 0)))
   stored_at f [] zs k h l = absurd (omega arith)
@@ -51,7 +47,12 @@ module _ {one : Range → ℤ → Range} {with : List Range → List ℤ → Lis
 -- ---- earliest starts
 pub starts_stored : Stores (λ y e. with_earliest y (start_stored y e)) with_starts
 unfolding with_starts
-starts_stored = record { no_range = λ zs. refl; none = λ ys. elim ys [ [] ↦ refl | y ∷ us ↦ refl ]; first = λ y ys z zs. refl }
+starts_stored = record { no_range = λ zs. refl; none = λ ys. elim ys as (λ (us : List Range). with_starts us [] ≡ us) [ [] ↦ refl | y ∷ us ↦ refl ]; first = λ y ys z zs. refl }
+
+-- one turn of the loop: range i is read, and the start that is stored in it is written back
+pub start_more : (us ys : List Range) (es : List ℤ) (i : ℕ) (d : Range) (e z : ℤ) → us ≡ with_starts ys (take i es) → i < length ys → i < length es
+    → e ≡ start_stored (get_or us i d) z → z ≡ get_or es i (pos 0) → set us i (with_earliest (get_or us i d) e) ≡ with_starts ys (take (i + 1) es)
+start_more us ys es i d e z is h k said read = rw (said, read, is, add-one i) (stored_more starts_stored ys es i d h k)
 
 pub with_none : (ys : List Range) → with_starts ys [] ≡ ys
 with_none = starts_stored.none
@@ -74,7 +75,11 @@ own_starts = stored_own starts_stored (λ (y : Range). y.earliest) (λ y i. with
 -- ---- latest starts
 pub latests_stored : Stores (λ y l. with_latest y (latest_stored y l)) with_latests
 unfolding with_latests
-latests_stored = record { no_range = λ zs. refl; none = λ ys. elim ys [ [] ↦ refl | y ∷ us ↦ refl ]; first = λ y ys z zs. refl }
+latests_stored = record { no_range = λ zs. refl; none = λ ys. elim ys as (λ (us : List Range). with_latests us [] ≡ us) [ [] ↦ refl | y ∷ us ↦ refl ]; first = λ y ys z zs. refl }
+
+pub latest_more : (us ys : List Range) (ls : List ℤ) (i : ℕ) (d : Range) (l z : ℤ) → us ≡ with_latests ys (take i ls) → i < length ys → i < length ls
+    → l ≡ latest_stored (get_or us i d) z → z ≡ get_or ls i (pos 0) → set us i (with_latest (get_or us i d) l) ≡ with_latests ys (take (i + 1) ls)
+latest_more us ys ls i d l z is h k said read = rw (said, read, is, add-one i) (stored_more latests_stored ys ls i d h k)
 
 pub latest_none : (ys : List Range) → with_latests ys [] ≡ ys
 latest_none = latests_stored.none

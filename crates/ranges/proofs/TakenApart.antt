@@ -3,18 +3,19 @@ use mathlib.Core.Bool.{Bool}
 use mathlib.Core.List.{List, [], ◌∷◌, ◌++◌, map, append_assoc}
 use mathlib.Core.Logic.{◌⊎◌, inl, inr, ⊎_elim}
 use mathlib.Core.Path.{◌≡◌, refl, sym, ap, subst, ◌∙◌}
-use Prim.Native.Nat.{ℕ, suc, ◌≤◌, ◌<◌}
+use Prim.Native.Nat.{ℕ, suc, ◌+◌, ◌≤◌, ◌<◌}
 use native.Mathlib.Omega.{arith}
+use native.Mathlib.Numerals.{add-one}
 use lib.Dec.{leb}
 use lib.IntN.{ℤ, pos}
-use lib.ListN.{length, get_or, set, take, drop, replicate, length-replicate, length-append, length-drop, length-map, get_or-map}
+use lib.ListN.{length, get_or, set, take, drop, replicate, length-replicate, length-map, get_or-map}
 use lib.Seq.{length-take-le, take_all, take-suc, drop-cons, take_at, set_at}
 use borrow.Author.Tests.{le-leb, lt-leb, leb-true, leb-false}
 use Rattle.integers.proofs.Bools.{bool}
 use Rattle.integers.specs.Limits.{TASKS}
 use Rattle.ranges.specs.declared.range.Range.{Range}
 use Rattle.ranges.specs.Bars.{all_bars_are_fit}
-use Rattle.ranges.specs.Ranges.{earliests, latests, any_range}
+use Rattle.ranges.specs.Ranges.{earliests, latests}
 use Rattle.ranges.specs.declared.starts.Starts.{Starts}
 use Rattle.ranges.specs.declared.starts.StartsWithBars.{StartsWithBars}
 use Rattle.ranges.specs.TakenApart.{taken, over, padded, TakenInto, starts_taken, starts_and_bars}
@@ -41,15 +42,12 @@ front_more zs bs i h k =
     ∙ set_at (take i zs) (get_or bs i (pos 0)) (drop (suc i) bs) (get_or zs i (pos 0)) i (length-take-le i zs (omega arith))
     ∙ sym (ap (λ (us : List ℤ). us ++ drop (suc i) bs) (take-suc zs i (pos 0) h) ∙ append_assoc (take i zs) (get_or zs i (pos 0) ∷ []) (drop (suc i) bs))
 
-pub over_length : (n : ℕ) (zs us : List ℤ) → n ≤ length us → n ≤ length zs → length (over n zs us) ≡ length us
-over_length n zs us h k = simp (length-append, length-drop, length-take-le n zs k) (omega arith)
-
 -- of a field of range i
-pub over_more : (f : Range → ℤ) → f any_range ≡ pos 0 → (ys : List Range) (us : List ℤ) (i : ℕ) → i < length us → i < length ys
-    → set (over i (map f ys) us) i (f (get_or ys i any_range)) ≡ over (suc i) (map f ys) us
-over_more f z ys us i h k =
-    ap (λ (v : ℤ). set (over i (map f ys) us) i v) (sym (get_or-map f ys i any_range) ∙ ap (λ (d : ℤ). get_or (map f ys) i d) z)
-    ∙ front_more (map f ys) us i (omega (arith, length-map ys f)) h
+pub over_more : (f : Range → ℤ) (d : Range) → f d ≡ pos 0 → (ys : List Range) (us : List ℤ) (i : ℕ) → i < length us → i < length ys
+    → set (over i (map f ys) us) i (f (get_or ys i d)) ≡ over (i + 1) (map f ys) us
+over_more f d z ys us i h k =
+    rw (add-one i) (ap (λ (v : ℤ). set (over i (map f ys) us) i v) (sym (get_or-map f ys i d) ∙ ap (λ (e : ℤ). get_or (map f ys) i e) z)
+    ∙ front_more (map f ys) us i (omega (arith, length-map ys f)) h)
 
 padded_take : (n : ℕ) (zs : List ℤ) → n ≤ length zs → take n (padded n zs) ≡ take n zs
 unfolding padded
