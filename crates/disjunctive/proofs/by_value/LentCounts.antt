@@ -1,7 +1,7 @@
 -- As many ranges as a count asks for, and all of an array's where it has fewer: the two take and leave the same ranges of the array.
 use mathlib.Core.List.{List, ◌++◌}
 use mathlib.Core.Logic.{◌⊎◌, inl, inr, ⊎_elim}
-use mathlib.Core.Path.{◌≡◌, refl, ap, subst, sym, ◌∙◌}
+use mathlib.Core.Path.{◌≡◌, ap, subst, sym, ◌∙◌}
 use Prim.Native.Nat.{ℕ, ◌≤◌, ◌<◌}
 use native.Mathlib.Omega.{arith}
 use lib.Dec.{leb}
@@ -53,7 +53,7 @@ module _ (x : Ranges) (size : length x.ranges ≡ RANGES) (n : ℕ) (lent : n �
       let long : length ys ≡ n = same ∙ sym lent_length in
       let all : length (ys ++ drop n x.ranges) ≡ RANGES = omega (arith, length-append ys (drop n x.ranges), length-drop n x.ranges, lent_there) in
       let left : take x.count (ys ++ drop n x.ranges) ≡ ys =
-        sym (ap (λ (k : ℕ). take k (ys ++ drop n x.ranges)) lent ∙ lent_take x.count (ys ++ drop n x.ranges) all) ∙ take_at ys (drop n x.ranges) n long in
+      sym (ap (λ (k : ℕ). take k (ys ++ drop n x.ranges)) lent ∙ lent_take x.count (ys ++ drop n x.ranges) all) ∙ take_at ys (drop n x.ranges) n long in
       record {
         promise = subst (λ (zs : List Range). P (given x) zs) (sym left) (subst (λ (zs : List Range). P zs ys) lent_given holds);
         others = drop-append-drop n x.ranges ys x.count (omega (arith, lent_least x.count)) long;
