@@ -1,6 +1,8 @@
 // The program `costliest`: n is read, and the costliest instance of n tasks is written as `plan` reads it.
 #![tactic(auto)]
 
-fn main() {
-    costliest_cli::program::run();
+use std::io;
+
+fn main(rt: HostRuntime) -> io::Result<()> {
+    costliest_cli::program::run(&mut rt.stdin(), &mut rt.stdout())
 }

@@ -1,9 +1,11 @@
-// The program: standard input is read to its end, and the instance is written to standard output. Only reading and writing is assumed.
-ghost use Rattle.std.specs.Prelude.{List, ◌≡◌, ℕ, ◌≤◌, ℤ, length};
+// The program: its input is read to the end, and the instance is written to its output. Only reading and writing is assumed.
+ghost use Rattle.std.specs.Prelude.{List, ◌≡◌, ℕ, ◌≤◌, ℤ, OnOk, length};
+ghost use Rattle.std.specs.Io.KnownBytes.{Consumes};
 ghost use Rattle.std.proofs.Math.Option.{Option};
 ghost use Rattle.text.specs.DecimalText.{Puts};
 ghost use Rattle.text.specs.Scanner.{gathered};
 ghost use Rattle.plan_cli.specs.Printed.{TextWritten};
+ghost use Rattle.plan_cli.specs.Streams.{Answers};
 ghost use Rattle.costliest_cli.specs.Written.{ROOM, answer_lines, written};
 ghost use Rattle.costliest_cli.specs.Asked.{asked_in};
 
@@ -12,6 +14,8 @@ use crate::tasks::put_instance;
 use plan_cli::lines::put_refused;
 use plan_cli::stdin::read_numbers;
 use plan_cli::stdout::write_first;
+use std::io;
+use std::io::{Read, Write};
 use text::reading::{Numbers, numbers_of};
 
 // Bytes for any instance.
@@ -40,16 +44,20 @@ pub fn print(out: &mut [u8], text: &[u8]) -> usize
 }
 
 // What is written for the text that is read.
-fn answer_input(out: &mut [u8]) -> usize
+fn answer_input<R: Read>(input: &mut R, out: &mut [u8]) -> usize
     requires { ROOM ≤ length out.old }
-    ensures { (text : List ℕ) × TextWritten out.new result (written text) }
+    ensures { (text : List ℕ) × TextWritten out.new result (written text)
+        × Consumes (R.remaining input.old) (R.remaining input.new) text }
 {
-    put_answer(out, read_numbers())
+    put_answer(out, read_numbers(input))
 }
 
-// The whole program.
-pub fn run() {
+// The whole program: what is written is the answer to the text that was read.
+pub fn run<R: Read, W: Write>(input: &mut R, output: &mut W) -> io::Result<()>
+    ensures { OnOk result (Answers written (R.remaining input.old) (R.remaining input.new)
+        (W.contents output.old) (W.contents output.new)) }
+{
     let mut out = [0u8; ROOM];
-    let n = answer_input(&mut out);
-    write_first(&out, n);
+    let n = answer_input(input, &mut out);
+    write_first(output, &out, n)
 }

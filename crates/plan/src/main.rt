@@ -1,6 +1,8 @@
 // The program `plan`; the gate runs it on instance A.
 #![tactic(auto)]
 
-fn main() {
-    plan_cli::program::run();
+use std::io;
+
+fn main(rt: HostRuntime) -> io::Result<()> {
+    plan_cli::program::run(&mut rt.stdin(), &mut rt.stdout())
 }

@@ -3,7 +3,8 @@ ghost use Rattle.std.specs.Prelude.{◌≡◌, ◌+◌, ◌≤◌, length, drop}
 ghost use Rattle.plan_cli.specs.Inputs.{first_mark};
 
 use crate::stdout::write_first;
-use libc::STDOUT_FILENO;
+use std::io;
+use std::io::Write;
 
 // The place of the first '%' from `from` on, or the end.
 pub fn end_of(inputs: &[u8], from: usize) -> usize
@@ -22,9 +23,9 @@ pub fn end_of(inputs: &[u8], from: usize) -> usize
 }
 
 // Writes the answer, and the mark after it.
-pub fn write_answer(out: &[u8], n: usize)
+pub fn write_answer<W: Write>(output: &mut W, out: &[u8], n: usize) -> io::Result<()>
     requires { n ≤ length out.now }
 {
-    write_first(out, n);
-    io::write_all(STDOUT_FILENO, b"%\n");
+    write_first(output, out, n)?;
+    output.write_all(b"%\n")
 }

@@ -1,10 +1,11 @@
-// Standard input, read to its end: its numbers. Only reading is assumed.
+// An input, read to its end: its numbers. Only reading is assumed. A failed read counts as the end.
 ghost use mathlib.Core.List.{List, foldl};
-ghost use Rattle.std.specs.Prelude.{◌≡◌, ℕ};
+ghost use Rattle.std.specs.Prelude.{◌≡◌, ℕ, ◌≤◌, length, take};
+ghost use Rattle.std.specs.Io.KnownBytes.{Consumes};
 ghost use Rattle.text.specs.Numbers.{numbers_in};
 ghost use Rattle.text.specs.Scanner.{step_of, gathered};
 
-use libc::STDIN_FILENO;
+use std::io::Read;
 use text::reading::{Numbers, Scanner};
 
 // The scanner after one read, and whether the input goes on.
@@ -14,13 +15,24 @@ pub struct Piece {
     pub more: bool,
 }
 
-// Reads once. Nothing says which bytes a read gives; the scanner has gone over some.
-fn read_piece(scanner: Scanner) -> Piece
-    ensures { (bytes : List ℕ) × (result.scanner ≡ foldl step_of scanner bytes) }
+// Reads once, and answers how many bytes it put at the buffer's start: none at the input's end, and none where the read fails.
+fn read_some<R: Read>(input: &mut R, buffer: &mut [u8]) -> usize
+    ensures within { result ≤ length buffer.new }
+    ensures bytes { Consumes (R.remaining input.old) (R.remaining input.new) (take result buffer.new) }
 {
-    let mut buffer = io::buffer();
-    let got = libc::read(STDIN_FILENO, &mut buffer);
-    let n = io::count(got, &buffer);
+    match input.read(buffer) {
+        Ok(n) => n,
+        Err(_) => 0,
+    }
+}
+
+// Reads once. The scanner has gone over some bytes; where the input's bytes are known, they are the next of them.
+fn read_piece<R: Read>(input: &mut R, scanner: Scanner) -> Piece
+    ensures { (bytes : List ℕ) × (result.scanner ≡ foldl step_of scanner bytes)
+        × Consumes (R.remaining input.old) (R.remaining input.new) bytes }
+{
+    let mut buffer = [0u8; 4096];
+    let n = read_some(input, &mut buffer);
     Piece {
         scanner: scanner.feed(&buffer[..n]),
         more: n > 0,
@@ -28,13 +40,14 @@ fn read_piece(scanner: Scanner) -> Piece
 }
 
 // The numbers of the whole input. A loop must end, so its turns are counted down from more than any input takes.
-pub fn read_numbers() -> Numbers
-    ensures { (text : List ℕ) × (result ≡ gathered (numbers_in text)) }
+pub fn read_numbers<R: Read>(input: &mut R) -> Numbers
+    ensures { (text : List ℕ) × (result ≡ gathered (numbers_in text))
+        × Consumes (R.remaining input.old) (R.remaining input.new) text }
 {
     let mut scanner = Scanner::new();
     let mut turns = u64::MAX;
     while turns > 0 {
-        let piece = read_piece(scanner);
+        let piece = read_piece(input, scanner);
         scanner = piece.scanner;
         turns -= 1;
         if !piece.more {
@@ -42,4 +55,19 @@ pub fn read_numbers() -> Numbers
         }
     }
     scanner.finish()
+}
+
+// Reads until the buffer is full, the input ends or a read fails, and answers how many bytes it put at the buffer's start.
+pub fn read_full<R: Read>(input: &mut R, buffer: &mut [u8]) -> usize
+    ensures { result ≤ length buffer.new }
+{
+    let mut done = 0;
+    while done < buffer.len() {
+        let n = read_some(input, &mut buffer[done..]);
+        if n == 0 {
+            return done;
+        }
+        done += n;
+    }
+    done
 }

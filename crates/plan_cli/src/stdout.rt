@@ -1,11 +1,14 @@
-// Standard output. Only writing is assumed.
-ghost use Rattle.std.specs.Prelude.{◌≤◌, length};
+// An output. Only writing is assumed.
+ghost use Rattle.std.specs.Prelude.{◌≤◌, OnOk, length, take};
+ghost use Rattle.std.specs.Io.KnownBytes.{Appends};
 
-use libc::STDOUT_FILENO;
+use std::io;
+use std::io::Write;
 
 // Writes the first n bytes.
-pub fn write_first(out: &[u8], n: usize)
+pub fn write_first<W: Write>(output: &mut W, out: &[u8], n: usize) -> io::Result<()>
     requires { n ≤ length out.now }
+    ensures { OnOk result (Appends (W.contents output.old) (W.contents output.new) (take n out.now)) }
 {
-    io::write_all(STDOUT_FILENO, &out[..n]);
+    output.write_all(&out[..n])
 }

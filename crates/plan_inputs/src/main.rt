@@ -3,32 +3,35 @@
 // The answers in `stdout` are the published Rust's, after the program's own reading of its input.
 #![tactic(auto)]
 
-use libc::STDIN_FILENO;
 use plan_cli::inputs::{end_of, write_answer};
 use plan_cli::program::{ROOM, print};
+use plan_cli::stdin::read_full;
+use std::io;
+use std::io::Write;
 
 // Bytes for all inputs.
 const INPUTS: usize = 65536;
 
 // The answer to one input.
-fn answer(input: &[u8]) {
+fn answer<W: Write>(output: &mut W, input: &[u8]) -> io::Result<()> {
     let mut out = [0u8; ROOM];
     let n = print(&mut out, input);
-    write_answer(&out, n);
+    write_answer(output, &out, n)
 }
 
 // The answers to all, one after the other.
-fn answer_all(inputs: &[u8]) {
+fn answer_all<W: Write>(output: &mut W, inputs: &[u8]) -> io::Result<()> {
     let mut from = 0;
     while from < inputs.len() {
         let end = end_of(inputs, from);
-        answer(&inputs[from..end]);
+        answer(output, &inputs[from..end])?;
         from = end + 1;
     }
+    Ok(())
 }
 
-fn main() {
+fn main(rt: HostRuntime) -> io::Result<()> {
     let mut inputs = [0u8; INPUTS];
-    let n = io::read_full(STDIN_FILENO, &mut inputs);
-    answer_all(&inputs[..n]);
+    let n = read_full(&mut rt.stdin(), &mut inputs);
+    answer_all(&mut rt.stdout(), &inputs[..n])
 }

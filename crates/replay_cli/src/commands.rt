@@ -8,6 +8,8 @@ use replay_lines::lines::{END, say_error, say_line};
 use replay_lines::parts::{LISTS, WORDS, after_word, first_word, list, lists_in};
 use replay_lines::state_commands::{answer_prepare, answer_query, answer_state};
 use replay_lines::words::{APPLY, CHECK_MIRRORED, CREATE, PREPARE, REMOVE, SHOW, number_of};
+use std::io;
+use std::io::Write;
 
 // What is kept between commands.
 #[derive(Clone, Copy)]
@@ -52,79 +54,95 @@ impl Session {
     }
 
     // The answer to a command with one list of numbers.
-    fn answer_list(self, command: usize, a: &[i32]) -> Session {
+    fn answer_list<W: Write>(
+        self,
+        output: &mut W,
+        command: usize,
+        a: &[i32],
+    ) -> io::Result<Session> {
         if command == CREATE || (self.made && command <= REMOVE) {
             let record = self.record;
-            return self.with_record(answer_change(record, command, a));
+            return Ok(self.with_record(answer_change(output, record, command, a)?));
         }
         if command <= REMOVE {
-            say_error();
-            return self;
+            say_error(output)?;
+            return Ok(self);
         }
         let state = self.state;
         if command <= APPLY {
-            return self.with_state(answer_state(state, command, a));
+            return Ok(self.with_state(answer_state(output, state, command, a)?));
         }
-        answer_query(state, command, a);
-        self
+        answer_query(output, state, command, a)?;
+        Ok(self)
     }
 
     // The answer to a command on lists, of which there are n.
-    fn answer_lists(self, command: usize, words: &[i32], ends: &[usize], n: usize) -> Session {
+    fn answer_lists<W: Write>(
+        self,
+        output: &mut W,
+        command: usize,
+        words: &[i32],
+        ends: &[usize],
+        n: usize,
+    ) -> io::Result<Session> {
         if command == PREPARE {
             let state = self.state;
-            return self.with_state(answer_prepare(
-                state,
-                list(words, ends, 0),
-                list(words, ends, 1),
-            ));
+            let next = answer_prepare(output, state, list(words, ends, 0), list(words, ends, 1))?;
+            return Ok(self.with_state(next));
         }
         if command <= CHECK_MIRRORED {
-            answer_check(command, words, ends);
-            return self;
+            answer_check(output, command, words, ends)?;
+            return Ok(self);
         }
         if self.made {
             let record = self.record;
-            answer_ranges(record, command, words, ends, n);
+            answer_ranges(output, record, command, words, ends, n)?;
         } else {
-            say_error();
+            say_error(output)?;
         }
-        self
+        Ok(self)
     }
 
     // The answer to a command, whose n lists are read: none where a word is no number. The commands up to SHOW take one list.
-    fn answer_read(self, command: usize, words: &[i32], ends: &[usize], n: usize) -> Session {
+    fn answer_read<W: Write>(
+        self,
+        output: &mut W,
+        command: usize,
+        words: &[i32],
+        ends: &[usize],
+        n: usize,
+    ) -> io::Result<Session> {
         if n == 0 || (command <= SHOW && n > 1) {
-            say_error();
-            return self;
+            say_error(output)?;
+            return Ok(self);
         }
         if command <= SHOW {
-            return self.answer_list(command, list(words, ends, 0));
+            return self.answer_list(output, command, list(words, ends, 0));
         }
-        self.answer_lists(command, words, ends, n)
+        self.answer_lists(output, command, words, ends, n)
     }
 
     // The answer to a command, whose lists are read here.
-    fn answer_command(self, line: &[u8]) -> Session {
+    fn answer_command<W: Write>(self, output: &mut W, line: &[u8]) -> io::Result<Session> {
         let mut words = [0i32; WORDS];
         let mut ends = [0usize; LISTS];
         let n = lists_in(&mut words, &mut ends, after_word(line));
-        self.answer_read(number_of(first_word(line)), &words, &ends, n)
+        self.answer_read(output, number_of(first_word(line)), &words, &ends, n)
     }
 
     // A line's answer, and `end` after it. Empty lines and those that start with # have none.
-    pub fn answer_line(self, line: &[u8]) -> Session {
+    pub fn answer_line<W: Write>(self, output: &mut W, line: &[u8]) -> io::Result<Session> {
         let command = command_of(line);
         if command.len() == 0 || command[0] == b'#' {
-            return self;
+            return Ok(self);
         }
         let word = first_word(command);
         if word.len() == 0 {
-            return self;
+            return Ok(self);
         }
-        let next = self.answer_command(command);
-        say_line(END);
-        next
+        let next = self.answer_command(output, command)?;
+        say_line(output, END)?;
+        Ok(next)
     }
 }
 

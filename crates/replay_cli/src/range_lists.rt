@@ -4,6 +4,8 @@ use integers::limits::BARS;
 use ranges::range::Range;
 use replay_lines::lines::{STARTS, end_line, say_number, say_word};
 use replay_lines::parts::{list, number_at, place_of};
+use std::io;
+use std::io::Write;
 
 // The ranges of a command: the first `count` of those that are kept. `valid` is false where the command is not understood.
 #[derive(Clone, Copy)]
@@ -127,12 +129,17 @@ fn start_at(ranges: [Range; RANGES], i: usize, bound: StartBound) -> i32 {
 }
 
 // The line of the first n starts: the earliest, or the latest.
-pub fn say_starts(ranges: [Range; RANGES], n: usize, bound: StartBound) {
-    say_word(STARTS);
+pub fn say_starts<W: Write>(
+    output: &mut W,
+    ranges: [Range; RANGES],
+    n: usize,
+    bound: StartBound,
+) -> io::Result<()> {
+    say_word(output, STARTS)?;
     let mut i = 0;
     while i < n {
-        say_number(start_at(ranges, i, bound));
+        say_number(output, start_at(ranges, i, bound))?;
         i += 1;
     }
-    end_line();
+    end_line(output)
 }

@@ -12,47 +12,60 @@ use replay_lines::lines::{
 };
 use replay_lines::parts::bytes_of;
 use replay_lines::words::{BUSIEST, CHARGES, FREE};
+use std::io;
+use std::io::Write;
 
 // Bytes of a page of 48 tasks.
 const PAGE: usize = 1519;
 
 // The answer on a fixed schedule, and what more is asked.
-pub fn answer_fixed(
+pub fn answer_fixed<W: Write>(
+    output: &mut W,
     record: DisjunctivePropagator,
     command: usize,
     ranges: RangeList,
     asked: &[i32],
-) {
+) -> io::Result<()> {
     if !ranges.valid {
-        return say_error();
+        return say_error(output);
     }
     if command == CHARGES {
-        return answer_charges(record, ranges, asked);
+        return answer_charges(output, record, ranges, asked);
     }
     if command == FREE {
-        return answer_free_start(record, ranges, asked);
+        return answer_free_start(output, record, ranges, asked);
     }
     if command == BUSIEST {
-        return answer_stretch(record, ranges, asked);
+        return answer_stretch(output, record, ranges, asked);
     }
-    answer_page(record, ranges, asked);
+    answer_page(output, record, ranges, asked)
 }
 
 // `page`: the page of a fixed schedule.
-fn answer_page(record: DisjunctivePropagator, ranges: RangeList, asked: &[i32]) {
+fn answer_page<W: Write>(
+    output: &mut W,
+    record: DisjunctivePropagator,
+    ranges: RangeList,
+    asked: &[i32],
+) -> io::Result<()> {
     if asked.len() != 0 {
-        return say_error();
+        return say_error(output);
     }
     let mut sheet = [0u8; PAGE];
     let answer = by_value::page(record, ranges.given(), &mut sheet);
     match answer {
-        Page::Written(bytes) => say(bytes_of(&sheet, 0, bytes)),
-        Page::Refused(number) => say_refused(number),
+        Page::Written(bytes) => say(output, bytes_of(&sheet, 0, bytes)),
+        Page::Refused(number) => say_refused(output, number),
     }
 }
 
 // `charges`: the charges of a fixed schedule by the due moments, and their total.
-fn answer_charges(record: DisjunctivePropagator, ranges: RangeList, due: &[i32]) {
+fn answer_charges<W: Write>(
+    output: &mut W,
+    record: DisjunctivePropagator,
+    ranges: RangeList,
+    due: &[i32],
+) -> io::Result<()> {
     let made = by_value::charges(record, ranges.given(), due);
     let answer = made.answer;
     let charged = made.charged;
@@ -60,10 +73,10 @@ fn answer_charges(record: DisjunctivePropagator, ranges: RangeList, due: &[i32])
         Charging::Made => {
             let charges = charged.charges;
             let total = charged.total;
-            say_charges(charges, ranges.count);
-            say_counted(TOTAL, total as usize);
+            say_charges(output, charges, ranges.count)?;
+            say_counted(output, TOTAL, total as usize)
         }
-        Charging::Refused(number) => say_refused(number),
+        Charging::Refused(number) => say_refused(output, number),
     }
 }
 
@@ -76,49 +89,65 @@ fn charge_at(charges: [u32; TASKS], i: usize) -> usize {
 }
 
 // The line of the first n charges.
-fn say_charges(charges: [u32; TASKS], n: usize) {
-    say_word(MADE_CHARGES);
+fn say_charges<W: Write>(output: &mut W, charges: [u32; TASKS], n: usize) -> io::Result<()> {
+    say_word(output, MADE_CHARGES)?;
     let mut i = 0;
     while i < n {
-        say_count(charge_at(charges, i));
+        say_count(output, charge_at(charges, i))?;
         i += 1;
     }
-    end_line();
+    end_line(output)
 }
 
 // `free`: the earliest free start beside a fixed schedule.
-fn answer_free_start(record: DisjunctivePropagator, ranges: RangeList, asked: &[i32]) {
+fn answer_free_start<W: Write>(
+    output: &mut W,
+    record: DisjunctivePropagator,
+    ranges: RangeList,
+    asked: &[i32],
+) -> io::Result<()> {
     if asked.len() != 2 {
-        return say_error();
+        return say_error(output);
     }
-    say_free_start(by_value::free_start(record, ranges.given(), asked[0], asked[1]));
+    say_free_start(
+        output,
+        by_value::free_start(record, ranges.given(), asked[0], asked[1]),
+    )
 }
 
 // The line of it.
-fn say_free_start(answer: FreeStart) {
+fn say_free_start<W: Write>(output: &mut W, answer: FreeStart) -> io::Result<()> {
     match answer {
-        FreeStart::At(start) => say_valued(START, start),
-        FreeStart::Refused(number) => say_refused(number),
+        FreeStart::At(start) => say_valued(output, START, start),
+        FreeStart::Refused(number) => say_refused(output, number),
     }
 }
 
 // `busiest`: the busiest stretch of a fixed schedule.
-fn answer_stretch(record: DisjunctivePropagator, ranges: RangeList, asked: &[i32]) {
+fn answer_stretch<W: Write>(
+    output: &mut W,
+    record: DisjunctivePropagator,
+    ranges: RangeList,
+    asked: &[i32],
+) -> io::Result<()> {
     if asked.len() != 1 {
-        return say_error();
+        return say_error(output);
     }
-    say_stretch(by_value::busiest_stretch(record, ranges.given(), asked[0]));
+    say_stretch(
+        output,
+        by_value::busiest_stretch(record, ranges.given(), asked[0]),
+    )
 }
 
 // The line of it.
-fn say_stretch(answer: Busiest) {
+fn say_stretch<W: Write>(output: &mut W, answer: Busiest) -> io::Result<()> {
     match answer {
         Busiest::Stretch(time, start) => {
-            say_word(COVERED);
-            say_count(time as usize);
-            say_space();
-            say_valued(FROM, start);
+            say_word(output, COVERED)?;
+            say_count(output, time as usize)?;
+            say_space(output)?;
+            say_valued(output, FROM, start)
         }
-        Busiest::Refused(number) => say_refused(number),
+        Busiest::Refused(number) => say_refused(output, number),
     }
 }

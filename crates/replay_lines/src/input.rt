@@ -1,4 +1,5 @@
-// Standard input, read line by line.
+// An input, read line by line. A failed read counts as its end.
+use std::io::Read;
 
 // A byte of the input, or the end of the input, where `more` is false.
 #[derive(Clone, Copy)]
@@ -15,19 +16,21 @@ pub struct Line {
 }
 
 // The next byte of the input.
-fn next_byte() -> Byte {
+fn next_byte<R: Read>(input: &mut R) -> Byte {
     let mut one = [0u8; 1];
-    let got = libc::read(0, &mut one);
-    let n = io::count(got, &one);
+    let more = match input.read(&mut one) {
+        Ok(n) => n > 0,
+        Err(_) => false,
+    };
     let byte = one[0];
-    Byte { byte, more: n > 0 }
+    Byte { byte, more }
 }
 
 // The next line, without its line feed, put into `line`. The last may have none.
-pub fn next_line(line: &mut [u8]) -> Line {
+pub fn next_line<R: Read>(input: &mut R, line: &mut [u8]) -> Line {
     let mut held = 0;
     while held < line.len() {
-        let next = next_byte();
+        let next = next_byte(input);
         let byte = next.byte;
         let more = next.more;
         if !more || byte == b'\n' {

@@ -1,6 +1,8 @@
-// Lines on their way out: each piece is written to standard output as it comes.
+// Lines on their way out: each piece is written to the output as it comes, and a write that fails ends the answer.
 use crate::parts::bytes_of;
 use crate::words::word_at;
+use std::io;
+use std::io::Write;
 use text::writing::{put_count, put_number};
 
 // The words of the answers, in the order of `say_word`.
@@ -87,91 +89,94 @@ pub const NEGATIVE_INF: usize = 39;
 pub const POSITIVE_INF: usize = 40;
 
 // Bytes.
-pub fn say(bytes: &[u8]) {
-    io::write_all(1, bytes);
+pub fn say<W: Write>(output: &mut W, bytes: &[u8]) -> io::Result<()> {
+    output.write_all(bytes)
 }
 
 // A word of an answer.
-pub fn say_word(word: usize) {
-    say(word_at(
-        b"why post starts changes done emptied overload refused contradiction error end >= <= passed not-passed created added removed yes no
+pub fn say_word<W: Write>(output: &mut W, word: usize) -> io::Result<()> {
+    say(
+        output,
+        word_at(
+            b"why post starts changes done emptied overload refused contradiction error end >= <= passed not-passed created added removed yes no
         passes bound none count nothing late after ends tasks charges total start covered from empty prepared var true false -inf +inf",
-        word,
-    ));
+            word,
+        ),
+    )
 }
 
 // A space.
-pub fn say_space() {
-    say(b" ");
+pub fn say_space<W: Write>(output: &mut W) -> io::Result<()> {
+    say(output, b" ")
 }
 
 // The end of a line.
-pub fn end_line() {
-    say(b"\n");
+pub fn end_line<W: Write>(output: &mut W) -> io::Result<()> {
+    say(output, b"\n")
 }
 
 // The line of a word alone.
-pub fn say_line(word: usize) {
-    say_word(word);
-    end_line();
+pub fn say_line<W: Write>(output: &mut W, word: usize) -> io::Result<()> {
+    say_word(output, word)?;
+    end_line(output)
 }
 
 // A whole number.
-pub fn say_whole(x: i32) {
+pub fn say_whole<W: Write>(output: &mut W, x: i32) -> io::Result<()> {
     let mut text = [0u8; 11];
     let end = put_number(&mut text, 0, x);
-    say(bytes_of(&text, 0, end));
+    say(output, bytes_of(&text, 0, end))
 }
 
 // A space and a whole number.
-pub fn say_number(x: i32) {
-    say_space();
-    say_whole(x);
+pub fn say_number<W: Write>(output: &mut W, x: i32) -> io::Result<()> {
+    say_space(output)?;
+    say_whole(output, x)
 }
 
 // A space and a count.
-pub fn say_count(n: usize) {
+pub fn say_count<W: Write>(output: &mut W, n: usize) -> io::Result<()> {
     let mut text = [0u8; 20];
     let end = put_count(&mut text, 0, n);
-    say_space();
-    say(bytes_of(&text, 0, end));
+    say_space(output)?;
+    say(output, bytes_of(&text, 0, end))
 }
 
 // The line of a word and a count.
-pub fn say_counted(word: usize, n: usize) {
-    say_word(word);
-    say_count(n);
-    end_line();
+pub fn say_counted<W: Write>(output: &mut W, word: usize, n: usize) -> io::Result<()> {
+    say_word(output, word)?;
+    say_count(output, n)?;
+    end_line(output)
 }
 
 // The line of a word and a whole number.
-pub fn say_valued(word: usize, x: i32) {
-    say_word(word);
-    say_number(x);
-    end_line();
+pub fn say_valued<W: Write>(output: &mut W, word: usize, x: i32) -> io::Result<()> {
+    say_word(output, word)?;
+    say_number(output, x)?;
+    end_line(output)
 }
 
 // A command that is not understood.
-pub fn say_error() {
-    say_line(ERROR);
+pub fn say_error<W: Write>(output: &mut W) -> io::Result<()> {
+    say_line(output, ERROR)
 }
 
 // The number that refused a call.
-pub fn say_refused(number: u32) {
-    say_counted(REFUSED, number as usize);
+pub fn say_refused<W: Write>(output: &mut W, number: u32) -> io::Result<()> {
+    say_counted(output, REFUSED, number as usize)
 }
 
 // The variable of a contradiction.
-pub fn say_contradiction(x: usize) {
-    say_counted(CONTRADICTION, x);
+pub fn say_contradiction<W: Write>(output: &mut W, x: usize) -> io::Result<()> {
+    say_counted(output, CONTRADICTION, x)
 }
 
 // Whole numbers, a space before each, and the end of the line.
-pub fn say_numbers(xs: &[i32]) {
+pub fn say_numbers<W: Write>(output: &mut W, xs: &[i32]) -> io::Result<()> {
     let mut i = 0;
     while i < xs.len() {
-        say_number(xs[i]);
+        say_number(output, xs[i])?;
         i += 1;
     }
-    end_line();
+    end_line(output)
 }

@@ -16,14 +16,21 @@ use integers::limits::VARIABLES;
 use integers::numbers::word_of;
 use integers::refused;
 use post_words::{atoms_in, variable_at};
+use std::io;
+use std::io::Write;
 
 // `state` and `apply`: the state after one of them.
-pub fn answer_state(state: VariableState, command: usize, words: &[i32]) -> VariableState {
+pub fn answer_state<W: Write>(
+    output: &mut W,
+    state: VariableState,
+    command: usize,
+    words: &[i32],
+) -> io::Result<VariableState> {
     if command != STATE {
-        return answer_apply(state, words);
+        return answer_apply(output, state, words);
     }
-    say_line(EMPTY);
-    VariableState::default()
+    say_line(output, EMPTY)?;
+    Ok(VariableState::default())
 }
 
 // Whether a list is one of atoms, and not empty.
@@ -32,10 +39,14 @@ fn has_atoms(words: &[i32]) -> bool {
 }
 
 // `apply`: the state with the first atom of a list, or the state unchanged.
-fn answer_apply(state: VariableState, words: &[i32]) -> VariableState {
+fn answer_apply<W: Write>(
+    output: &mut W,
+    state: VariableState,
+    words: &[i32],
+) -> io::Result<VariableState> {
     if !has_atoms(words) {
-        say_error();
-        return state;
+        say_error(output)?;
+        return Ok(state);
     }
     let next = state.apply(
         number_at(words, 0),
@@ -45,93 +56,101 @@ fn answer_apply(state: VariableState, words: &[i32]) -> VariableState {
     let answer = next.answer;
     let after = next.state;
     match answer {
-        Application::Consistent => say_variable(after, place_of(number_at(words, 0))),
-        Application::Contradiction(x) => say_contradiction(x),
-        Application::Refused(number) => say_refused(number),
-    }
-    after
+        Application::Consistent => say_variable(output, after, place_of(number_at(words, 0))),
+        Application::Contradiction(x) => say_contradiction(output, x),
+        Application::Refused(number) => say_refused(output, number),
+    }?;
+    Ok(after)
 }
 
 // `is_true`, `lower`, `upper` and `show`, of the first atom or variable of a list.
-pub fn answer_query(state: VariableState, command: usize, words: &[i32]) {
+pub fn answer_query<W: Write>(
+    output: &mut W,
+    state: VariableState,
+    command: usize,
+    words: &[i32],
+) -> io::Result<()> {
     if words.len() == 0 {
-        return say_error();
+        return say_error(output);
     }
     if command == IS_TRUE {
-        return answer_truth(state, words);
+        return answer_truth(output, state, words);
     }
     if command == LOWER {
-        return say_bound(state.lower_bound(words[0]));
+        return say_bound(output, state.lower_bound(words[0]));
     }
     if command == UPPER {
-        return say_bound(state.upper_bound(words[0]));
+        return say_bound(output, state.upper_bound(words[0]));
     }
-    say_variable(state, place_of(words[0]));
+    say_variable(output, state, place_of(words[0]))
 }
 
 // `is_true`: whether the first atom of a list is true.
-fn answer_truth(state: VariableState, words: &[i32]) {
+fn answer_truth<W: Write>(output: &mut W, state: VariableState, words: &[i32]) -> io::Result<()> {
     if !has_atoms(words) {
-        return say_error();
+        return say_error(output);
     }
-    say_truth(state.is_true(
-        number_at(words, 0),
-        number_at(words, 1),
-        number_at(words, 2),
-    ));
+    say_truth(
+        output,
+        state.is_true(
+            number_at(words, 0),
+            number_at(words, 1),
+            number_at(words, 2),
+        ),
+    )
 }
 
 // The line of a truth.
-fn say_truth(truth: Truth) {
+fn say_truth<W: Write>(output: &mut W, truth: Truth) -> io::Result<()> {
     match truth {
-        Truth::True => say_line(TRUE),
-        Truth::False => say_line(FALSE),
-        Truth::Refused(number) => say_refused(number),
+        Truth::True => say_line(output, TRUE),
+        Truth::False => say_line(output, FALSE),
+        Truth::Refused(number) => say_refused(output, number),
     }
 }
 
 // The line of a bound.
-fn say_bound(bound: Bound) {
+fn say_bound<W: Write>(output: &mut W, bound: Bound) -> io::Result<()> {
     match bound {
         Bound::At(x) => {
-            say_ext(x);
-            end_line();
+            say_ext(output, x)?;
+            end_line(output)
         }
-        Bound::Refused(number) => say_refused(number),
+        Bound::Refused(number) => say_refused(output, number),
     }
 }
 
 // A whole number or an infinity.
-fn say_ext(x: IntExt) {
+fn say_ext<W: Write>(output: &mut W, x: IntExt) -> io::Result<()> {
     match x {
-        IntExt::Int(v) => say_whole(v),
-        IntExt::NegativeInf => say_word(NEGATIVE_INF),
-        IntExt::PositiveInf => say_word(POSITIVE_INF),
+        IntExt::Int(v) => say_whole(output, v),
+        IntExt::NegativeInf => say_word(output, NEGATIVE_INF),
+        IntExt::PositiveInf => say_word(output, POSITIVE_INF),
     }
 }
 
 // The line of a variable: its bounds and its holes.
-fn say_variable(state: VariableState, x: usize) {
+fn say_variable<W: Write>(output: &mut W, state: VariableState, x: usize) -> io::Result<()> {
     if x >= VARIABLES {
-        return say_refused(refused::ATOMS);
+        return say_refused(output, refused::ATOMS);
     }
     let domain = state.domains[x];
-    say_word(VARIABLE);
-    say_count(x);
-    say_domain(domain);
+    say_word(output, VARIABLE)?;
+    say_count(output, x)?;
+    say_domain(output, domain)
 }
 
 // The rest of that line.
-fn say_domain(domain: Domain) {
+fn say_domain<W: Write>(output: &mut W, domain: Domain) -> io::Result<()> {
     let lower = domain.lower_bound;
     let upper = domain.upper_bound;
     let holes = domain.holes;
     let count = domain.count;
-    say_space();
-    say_ext(lower);
-    say_space();
-    say_ext(upper);
-    say_numbers(span(&holes, 0, count));
+    say_space(output)?;
+    say_ext(output, lower)?;
+    say_space(output)?;
+    say_ext(output, upper)?;
+    say_numbers(output, span(&holes, 0, count))
 }
 
 // Whether an atom of the words is on a variable.
@@ -148,37 +167,55 @@ fn mentions(words: &[i32], variable: i32) -> bool {
 }
 
 // The line of a variable, where one of the atoms is on it.
-fn say_if_mentioned(state: VariableState, premises: &[i32], consequent: &[i32], x: usize)
+fn say_if_mentioned<W: Write>(
+    output: &mut W,
+    state: VariableState,
+    premises: &[i32],
+    consequent: &[i32],
+    x: usize,
+) -> io::Result<()>
     requires { x < VARIABLES }
 {
     let variable = word_of(x);
     if mentions(premises, variable) || mentions(consequent, variable) {
-        say_variable(state, x);
+        return say_variable(output, state, x);
     }
+    Ok(())
 }
 
 // The lines of the variables that the atoms are on.
-fn say_mentioned(state: VariableState, premises: &[i32], consequent: &[i32]) {
+fn say_mentioned<W: Write>(
+    output: &mut W,
+    state: VariableState,
+    premises: &[i32],
+    consequent: &[i32],
+) -> io::Result<()> {
     let mut x = 0;
     while x < VARIABLES {
-        say_if_mentioned(state, premises, consequent, x);
+        say_if_mentioned(output, state, premises, consequent, x)?;
         x += 1;
     }
+    Ok(())
 }
 
 // `prepare`: the state of the premises and the negated consequent, or the state unchanged.
-pub fn answer_prepare(state: VariableState, premises: &[i32], consequent: &[i32]) -> VariableState {
+pub fn answer_prepare<W: Write>(
+    output: &mut W,
+    state: VariableState,
+    premises: &[i32],
+    consequent: &[i32],
+) -> io::Result<VariableState> {
     let next = VariableState::prepare_for_conflict_check(premises, consequent);
     let answer = next.answer;
     let after = next.state;
     match answer {
         Application::Consistent => {
-            say_line(PREPARED);
-            say_mentioned(after, premises, consequent);
-            return after;
+            say_line(output, PREPARED)?;
+            say_mentioned(output, after, premises, consequent)?;
+            return Ok(after);
         }
-        Application::Contradiction(x) => say_contradiction(x),
-        Application::Refused(number) => say_refused(number),
-    }
-    state
+        Application::Contradiction(x) => say_contradiction(output, x),
+        Application::Refused(number) => say_refused(output, number),
+    }?;
+    Ok(state)
 }
