@@ -52,7 +52,7 @@ state_answer a = record {
 abbrev pub queried_at : Application → StateAnswer → StateAnswer
 queried_at application.Consistent here = here
 queried_at (application.Contradiction x) here = state_answer (application_numbers (application.Contradiction x))
-queried_at (application.Refused n) here = state_answer (application_numbers (application.Refused n))
+queried_at (application.Refused why) here = state_answer (application_numbers (application.Refused why))
 
 -- a is made of the numbers of an answer of which P holds
 pub record NumbersOf {R A : Type 0} (numbers : R → A) (P : R → Type 0) (a : A) : Type 0 where

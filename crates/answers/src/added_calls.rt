@@ -1,4 +1,4 @@
-// The answers of the calls beside the run as structs of numbers, and the functions that make them of the enums. Kind 3 is Refused with its number;
+// The answers of the calls beside the run as structs of numbers, and the functions that make them of the answers. Kind 3 is a refusal with its number;
 // what a kind does not have is 0.
 ghost use Rattle.std.specs.Prelude.{◌≡◌};
 ghost use Rattle.overload_test.specs.Numbers.{numbers_of_overload};
@@ -13,19 +13,14 @@ ghost use Rattle.busiest_stretch.specs.Numbers.{numbers_of_busiest};
 ghost use Rattle.answers.specs.SourceAnswers.{WordsCountable};
 ghost use Rattle.answers.specs.AddedAnswers.{answer_of_mirrored, answer_of_count, change_answer, answer_of_start, busiest_answer, answer_of_charges, answer_of_conflict};
 
-use busiest_stretch::answer::Busiest;
-use charges::answer::{Charges, Charging, TaskCharges};
-use conflict_pages::answer::ConflictPage;
+use busiest_stretch::answer::Stretch;
+use charges::answer::{Charges, TaskCharges};
 use conflicts::answer::{Conflict, Found, Work};
-use free_starts::FreeStart;
 use integers::limits::TASKS;
-use overload_test::Overload;
-use pages::answer::Page;
+use integers::refused::Refusal;
 use post_words::words_of;
 use precedences::answers::Precedences;
-use precedences::reason::{BoundAbove, Reason};
 use runs::outcome::Outcome;
-use task_changes::changes::Change;
 
 // How a mirrored pass ended: kind 0 is Done, 1 Overload with the stretch of atom words that is its reason, 2 Emptied.
 #[repr(C)]
@@ -152,65 +147,70 @@ pub fn mirrored_numbers(outcome: Outcome) -> MirroredAnswer
             count,
         } => mirrored_answer(1, 0, posts, words_of(first), words_of(count)),
         Outcome::Emptied(posts) => mirrored_answer(2, 0, posts, 0, 0),
-        Outcome::Refused(number) => mirrored_answer(3, number, 0, 0, 0),
+        Outcome::Refused(why) => mirrored_answer(3, why.number(), 0, 0, 0),
     }
 }
 
-// The numbers of the overload test.
-pub fn overload_numbers(answer: Overload) -> CountAnswer
-    ensures { result ≡ answer_of_count (numbers_of_overload answer) }
+// The numbers of a call that answers a count: a page, or the reason of one task's bound.
+pub fn count_numbers(answer: Result<usize, Refusal>) -> CountAnswer
+    ensures page { result ≡ answer_of_count (numbers_of_page answer) }
+    ensures reason { result ≡ answer_of_count (numbers_of_reason answer) }
 {
     match answer {
-        Overload::Yes(read) => count_answer(0, 0, read),
-        Overload::No => count_answer(1, 0, 0),
-        Overload::Refused(number) => count_answer(3, number, 0),
+        Ok(count) => count_answer(0, 0, count),
+        Err(why) => count_answer(3, why.number(), 0),
+    }
+}
+
+// The numbers of a call that may find nothing to count: the overload test, or a conflict's page.
+pub fn found_numbers(answer: Result<Option<usize>, Refusal>) -> CountAnswer
+    ensures overload { result ≡ answer_of_count (numbers_of_overload answer) }
+    ensures page { result ≡ answer_of_count (numbers_of_conflict_page answer) }
+{
+    match answer {
+        Ok(Some(count)) => count_answer(0, 0, count),
+        Ok(None) => count_answer(1, 0, 0),
+        Err(why) => count_answer(3, why.number(), 0),
     }
 }
 
 // The numbers of a change.
-pub fn change_numbers(answer: Change) -> ChangeAnswer
+pub fn change_numbers(answer: Result<(), Refusal>) -> ChangeAnswer
     ensures { result ≡ change_answer (numbers_of_change answer) }
 {
     match answer {
-        Change::Made => ChangeAnswer { kind: 0, number: 0 },
-        Change::Refused(number) => ChangeAnswer { kind: 3, number },
-    }
-}
-
-// The numbers of a page.
-pub fn page_numbers(answer: Page) -> CountAnswer
-    ensures { result ≡ answer_of_count (numbers_of_page answer) }
-{
-    match answer {
-        Page::Written(bytes) => count_answer(0, 0, bytes),
-        Page::Refused(number) => count_answer(3, number, 0),
+        Ok(()) => ChangeAnswer { kind: 0, number: 0 },
+        Err(why) => ChangeAnswer {
+            kind: 3,
+            number: why.number(),
+        },
     }
 }
 
 // The numbers of a free start.
-pub fn start_numbers(answer: FreeStart) -> StartAnswer
+pub fn start_numbers(answer: Result<i32, Refusal>) -> StartAnswer
     ensures { result ≡ answer_of_start (free_start_numbers answer) }
 {
     match answer {
-        FreeStart::At(start) => start_answer(0, 0, start),
-        FreeStart::Refused(number) => start_answer(3, number, 0),
+        Ok(start) => start_answer(0, 0, start),
+        Err(why) => start_answer(3, why.number(), 0),
     }
 }
 
 // The numbers of the busiest stretch.
-pub fn busiest_numbers(answer: Busiest) -> BusiestAnswer
+pub fn busiest_numbers(answer: Result<Stretch, Refusal>) -> BusiestAnswer
     ensures { result ≡ busiest_answer (numbers_of_busiest answer) }
 {
     match answer {
-        Busiest::Stretch(time, start) => BusiestAnswer {
+        Ok(stretch) => BusiestAnswer {
             kind: 0,
             number: 0,
-            time,
-            start,
+            time: stretch.covered,
+            start: stretch.start,
         },
-        Busiest::Refused(number) => BusiestAnswer {
+        Err(why) => BusiestAnswer {
             kind: 3,
-            number,
+            number: why.number(),
             time: 0,
             start: 0,
         },
@@ -224,28 +224,18 @@ pub fn precedences_numbers(answer: Precedences) -> CountAnswer
     match answer {
         Precedences::Done => count_answer(0, 0, 0),
         Precedences::Emptied(task) => count_answer(1, 0, task),
-        Precedences::Refused(number) => count_answer(3, number, 0),
+        Precedences::Refused(why) => count_answer(3, why.number(), 0),
     }
 }
 
 // The numbers of one task's bound.
-pub fn bound_above_numbers(answer: BoundAbove) -> StartAnswer
+pub fn bound_above_numbers(answer: Result<Option<i32>, Refusal>) -> StartAnswer
     ensures { result ≡ answer_of_start (numbers_of_bound answer) }
 {
     match answer {
-        BoundAbove::At(bound) => start_answer(0, 0, bound),
-        BoundAbove::NoBound => start_answer(1, 0, 0),
-        BoundAbove::Refused(number) => start_answer(3, number, 0),
-    }
-}
-
-// The numbers of its reason.
-pub fn reason_numbers(answer: Reason) -> CountAnswer
-    ensures { result ≡ answer_of_count (numbers_of_reason answer) }
-{
-    match answer {
-        Reason::Written(atoms) => count_answer(0, 0, atoms),
-        Reason::Refused(number) => count_answer(3, number, 0),
+        Ok(Some(bound)) => start_answer(0, 0, bound),
+        Ok(None) => start_answer(1, 0, 0),
+        Err(why) => start_answer(3, why.number(), 0),
     }
 }
 
@@ -268,8 +258,8 @@ pub fn charges_numbers(made: Charges) -> ChargesAnswer
 {
     let answer = made.answer;
     match answer {
-        Charging::Made => charges_answer(0, 0, made.charged),
-        Charging::Refused(number) => charges_answer(3, number, made.charged),
+        Ok(()) => charges_answer(0, 0, made.charged),
+        Err(why) => charges_answer(3, why.number(), made.charged),
     }
 }
 
@@ -322,17 +312,6 @@ pub fn conflict_numbers(shown: Conflict) -> ConflictAnswer
             latest_start,
             bound,
         } => conflict_answer(2, 0, task, latest_start, bound, shown),
-        Found::Refused(number) => conflict_answer(3, number, 0, 0, 0, shown),
-    }
-}
-
-// The numbers of a conflict's page.
-pub fn conflict_page_numbers(answer: ConflictPage) -> CountAnswer
-    ensures { result ≡ answer_of_count (numbers_of_conflict_page answer) }
-{
-    match answer {
-        ConflictPage::Written(bytes) => count_answer(0, 0, bytes),
-        ConflictPage::NothingFound => count_answer(1, 0, 0),
-        ConflictPage::Refused(number) => count_answer(3, number, 0),
+        Found::Refused(why) => conflict_answer(3, why.number(), 0, 0, 0, shown),
     }
 }

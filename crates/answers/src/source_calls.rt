@@ -1,6 +1,7 @@
-// The answers of the open calls as structs of numbers, and the functions that make them of the enums.
+// The answers of the open calls as structs of numbers, and the functions that make them of the answers.
 ghost use Rattle.std.specs.Prelude.{◌≡◌, [], ◌∷◌, pos};
 ghost use Rattle.integers.specs.Answers.{answered, refused_by};
+ghost use Rattle.integers.specs.Refused.{number_of};
 ghost use Rattle.records.specs.Records.{number_of_creation};
 ghost use Rattle.checking.specs.Answers.{numbers_of_truth, numbers_of_ext, numbers_of_bound};
 ghost use Rattle.checker.specs.Verdicts.{numbers_of_verdict};
@@ -9,9 +10,10 @@ ghost use Rattle.answers.specs.SourceAnswers.{WordsCountable, answer_of_run, ans
 
 use checker::checker::Verdict;
 use checking::int_ext::IntExt;
-use checking::variable_state::{Application, Bound, Truth};
+use checking::variable_state::Application;
+use integers::refused::Refusal;
 use post_words::words_of;
-use records::record::{Creation, DisjunctivePropagator};
+use records::record::DisjunctivePropagator;
 use runs::outcome::{Finished, Outcome};
 
 // A new record, and the number that refused its durations, or 0.
@@ -68,12 +70,12 @@ pub struct StateAnswer {
 }
 
 // The number of an answer of creation.
-pub fn creation_number(answer: Creation) -> u32
+pub fn creation_number(answer: Result<(), Refusal>) -> u32
     ensures { result ≡ number_of_creation answer }
 {
     match answer {
-        Creation::Accepted => 0,
-        Creation::Refused(number) => number,
+        Ok(()) => 0,
+        Err(why) => why.number(),
     }
 }
 
@@ -92,7 +94,7 @@ pub fn finished_numbers(finished: Finished) -> RunAnswer
             count,
         } => run_answer(1, 0, posts, words_of(first), words_of(count), changes),
         Outcome::Emptied(posts) => run_answer(2, 0, posts, 0, 0, changes),
-        Outcome::Refused(number) => run_answer(3, number, 0, 0, 0, changes),
+        Outcome::Refused(why) => run_answer(3, why.number(), 0, 0, 0, changes),
     }
 }
 
@@ -124,7 +126,7 @@ pub fn verdict_numbers(verdict: Verdict) -> CheckAnswer
         Verdict::Passed => check_answer(0, 0, 0),
         Verdict::NotPassed => check_answer(1, 0, 0),
         Verdict::Contradiction(variable) => check_answer(2, 0, variable),
-        Verdict::Refused(number) => check_answer(3, number, 0),
+        Verdict::Refused(why) => check_answer(3, why.number(), 0),
     }
 }
 
@@ -152,12 +154,12 @@ fn contradiction_numbers(variable: usize) -> StateAnswer
 }
 
 // They, or the query, are refused.
-pub fn refusal_numbers(number: u32) -> StateAnswer
-    ensures { result ≡ state_answer (refused_by number) }
+pub fn refusal_numbers(why: Refusal) -> StateAnswer
+    ensures { result ≡ state_answer (refused_by (number_of why)) }
 {
     StateAnswer {
         kind: 3,
-        number,
+        number: why.number(),
         variable: 0,
         infinity: 0,
         value: 0,
@@ -165,25 +167,25 @@ pub fn refusal_numbers(number: u32) -> StateAnswer
 }
 
 // Whether the atom is true.
-pub fn truth_numbers(truth: Truth) -> StateAnswer
+pub fn truth_numbers(truth: Result<bool, Refusal>) -> StateAnswer
     ensures { result ≡ state_answer (numbers_of_truth truth) }
 {
     match truth {
-        Truth::True => StateAnswer {
+        Ok(true) => StateAnswer {
             kind: 0,
             number: 0,
             variable: 0,
             infinity: 0,
             value: 0,
         },
-        Truth::False => StateAnswer {
+        Ok(false) => StateAnswer {
             kind: 1,
             number: 0,
             variable: 0,
             infinity: 0,
             value: 0,
         },
-        Truth::Refused(number) => refusal_numbers(number),
+        Err(why) => refusal_numbers(why),
     }
 }
 
@@ -217,12 +219,12 @@ fn ext_numbers(bound: IntExt) -> StateAnswer
 }
 
 // The numbers of a bound.
-pub fn bound_numbers(bound: Bound) -> StateAnswer
+pub fn bound_numbers(bound: Result<IntExt, Refusal>) -> StateAnswer
     ensures { result ≡ state_answer (numbers_of_bound bound) }
 {
     match bound {
-        Bound::At(x) => ext_numbers(x),
-        Bound::Refused(number) => refusal_numbers(number),
+        Ok(x) => ext_numbers(x),
+        Err(why) => refusal_numbers(why),
     }
 }
 
@@ -233,6 +235,6 @@ pub fn state_numbers(answer: Application, here: StateAnswer) -> StateAnswer
     match answer {
         Application::Consistent => here,
         Application::Contradiction(x) => contradiction_numbers(x),
-        Application::Refused(number) => refusal_numbers(number),
+        Application::Refused(why) => refusal_numbers(why),
     }
 }

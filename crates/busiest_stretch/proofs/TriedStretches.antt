@@ -1,19 +1,17 @@
 -- The best of the stretches that start with a task or end with one is the best of all.
-use mathlib.Core.Path.{◌≡◌, refl, sym, subst, ◌∙◌}
+use mathlib.Core.Path.{◌≡◌, sym, subst, ◌∙◌}
 use mathlib.Core.Logic.{◌⊎◌, inl, inr}
 use Prim.Native.Nat.{ℕ, ◌+◌, ◌≤◌, ◌<◌}
 use mathlib.Core.List.{List}
 use native.Mathlib.Omega.{arith}
-use lib.ListN.{get_or}
+use lib.ListN.{length, get_or}
 use mir.Syntax.{w32}
 use mir.Val.{Fits}
-use Rattle.integers.specs.Limits.{START}
-use Rattle.integers.specs.Moments.{zero_at}
 use Rattle.scheduling.proofs.Sets.{total_part}
 use native.Mathlib.Numerals.{add-one}
 use Rattle.integers.proofs.Bools.{below_suc}
 use Rattle.scheduling.specs.Scheduling.{natural, Tasks}
-use Rattle.busiest_stretch.specs.StretchMoments.{Slidable, FirstAndLast, covered_in, NoWorse, StretchHeld, Tried, BusiestMoment}
+use Rattle.busiest_stretch.specs.StretchMoments.{Slidable, covered_in, NoWorse, StretchHeld, Tried, BusiestMoment}
 use Rattle.busiest_stretch.proofs.CoveredTime.{edge}
 use Rattle.busiest_stretch.proofs.LocalBest.{no_worse_chain, Turns, reaches}
 
@@ -27,26 +25,15 @@ pub record Best (M : Tasks natural) (w first last i c x : ℕ) : Type 0 where
   pub starts : (k : ℕ) → k < i → Beats M w first last c x (M.earliest k)
   pub ends : (k : ℕ) → k < i → (u : ℕ) → M.earliest k + M.duration k ≡ u + w → Beats M w first last c x u
 
--- what the limits leave to the ends of tasks and to the first start
-module _ {n w : ℕ} (starts ds : List ℕ) (s : Slidable n starts ds w) where
-  pub end_fits : (k : ℕ) → k < n → Fits w32 (get_or starts k 0 + get_or ds k 0)
-  end_fits k q = record { fits = omega (arith, s.high k q, total_part (λ j. get_or ds j 0) n k q, s.sum) }
+-- what the limits leave to the ends of tasks
+module _ {w first last : ℕ} (starts ds : List ℕ) (s : Slidable starts ds w first last) where
+  pub end_fits : (k : ℕ) → k < length starts → Fits w32 (get_or starts k 0 + get_or ds k 0)
+  end_fits k q = record { fits = omega (arith, s.greatest k q, s.high, total_part (λ j. get_or ds j 0) (length starts) k q, s.sum) }
 
-  pub end_late : (k : ℕ) → k < n → w ≤ get_or starts k 0 + get_or ds k 0
-  end_late k q = omega (arith, s.low k q, s.length)
-
-  pub start_high : {first last : ℕ} → FirstAndLast n starts first last → {x : ℕ} → x ≤ last → x ≤ zero_at + START
-  start_high f h = let (k, q, e) = f.starts_last in omega (arith, e, s.high k q)
+  pub end_late : (k : ℕ) → k < length starts → w ≤ get_or starts k 0 + get_or ds k 0
+  end_late k q = omega (arith, s.least k q, s.low, s.short)
 
 module _ (M : Tasks natural) (w first last : ℕ) where
-  -- a start that is tried: the best stays, or gives way
-  pub stays : (x c s : ℕ) → StretchHeld M w first last c s → Beats M w first last c s x → Tried M w first last x c s c s
-  stays x c s h t = record { held = h; kept = inr (refl, omega arith); tried = t }
-
-  pub gives_way : (x c s d : ℕ) → first ≤ x → x ≤ last → d ≡ covered_in M w x → NoWorse c s d x
-      → Tried M w first last x c s d x
-  gives_way x c s d l h e k = record { held = record { from = l; to = h; covers = sym e }; kept = k; tried = λ _ _. inr (sym e, omega arith) }
-
   pub none_yet : (c : ℕ) → c ≡ covered_in M w first → first ≤ last → Best M w first last 0 c first
   none_yet c e h = record {
     held = record { from = omega arith; to = h; covers = sym e };

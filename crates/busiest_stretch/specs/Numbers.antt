@@ -1,10 +1,11 @@
 -- The answer by the papers' numbers.
-use Rattle.std.specs.Prelude.{[], ◌∷◌, pos}
+use Rattle.std.specs.Prelude.{[], ◌∷◌, pos, Result, Ok, Err}
 use Rattle.integers.specs.Answers.{Answer, answered, refused_by}
-use Rattle.busiest_stretch.specs.declared.answer.Busiest.{Busiest}
-use Rattle.busiest_stretch.specs.declared.answer.Busiest.TheVariants.{Stretch, Refused}
+use Rattle.integers.specs.declared.refused.Refusal.{Refusal}
+use Rattle.integers.specs.Refused.{number_of}
+use Rattle.busiest_stretch.specs.declared.answer.Stretch.{Stretch}
 
 -- the values are the covered time and the stretch's start
-abbrev pub numbers_of_busiest : Busiest → Answer
-numbers_of_busiest (Stretch time start) = answered 0 (pos time ∷ start ∷ [])
-numbers_of_busiest (Refused number) = refused_by number
+abbrev pub numbers_of_busiest : Result Stretch Refusal → Answer
+numbers_of_busiest (Ok stretch) = answered 0 (pos stretch.covered ∷ stretch.start ∷ [])
+numbers_of_busiest (Err why) = refused_by (number_of why)

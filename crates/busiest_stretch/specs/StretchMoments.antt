@@ -1,8 +1,9 @@
 -- The same in moments, as the code computes it, and what its functions require.
-use Rattle.std.specs.Prelude.{◌≡◌, List, ◌⊎◌, ℕ, ◌+◌, ◌-◌, ◌≤◌, ◌<◌, min, max, get_or}
+use Rattle.std.specs.Prelude.{◌≡◌, List, ◌⊎◌, ℕ, ◌+◌, ◌-◌, ◌≤◌, ◌<◌, min, max, length, get_or}
 use Rattle.integers.specs.Limits.{TASKS, START, DURATIONS, LENGTH}
 use Rattle.integers.specs.Moments.{zero_at}
 use Rattle.scheduling.specs.Scheduling.{natural, Tasks, total}
+use Rattle.fixed_schedules.specs.Neighbours.{in_moments}
 
 -- the time that [a, b) and [x, y) have in common
 unfoldable pub common_in : ℕ → ℕ → ℕ → ℕ → ℕ
@@ -15,24 +16,29 @@ common_at M w x k = common_in (M.earliest k) (M.earliest k + M.duration k) x (x 
 abbrev pub covered_in : Tasks natural → ℕ → ℕ → ℕ
 covered_in M w x = total (common_at M w x) M.count
 
+-- the tasks with these starts and durations
+abbrev pub tasks_at : List ℕ → List ℕ → Tasks natural
+tasks_at starts ds = in_moments (length starts) starts ds
+
 -- (d, y) is as good as (c, x) or better: more is covered, or as much from no later start
 abbrev pub NoWorse : ℕ → ℕ → ℕ → ℕ → Type 0
 NoWorse c x d y = (c < d) ⊎ ((c ≡ d) × (y ≤ x))
 
--- All numbers are far from 0 and from the largest u32.
-pub record Slidable (n : ℕ) (starts ds : List ℕ) (w : ℕ) : Type 0 where
-  pub few : n ≤ TASKS
-  pub low : (k : ℕ) → k < n → LENGTH ≤ get_or starts k 0
-  pub high : (k : ℕ) → k < n → get_or starts k 0 ≤ zero_at + START
-  pub sum : total (λ k. get_or ds k 0) n ≤ DURATIONS
-  pub length : w ≤ LENGTH
+-- The starts of the tasks are from `first` to `last`, and all numbers are far from 0 and from the largest u32.
+pub record Slidable (starts ds : List ℕ) (w first last : ℕ) : Type 0 where
+  pub few : length starts ≤ TASKS
+  pub long : length ds ≡ length starts
+  pub least : (k : ℕ) → k < length starts → first ≤ get_or starts k 0
+  pub greatest : (k : ℕ) → k < length starts → get_or starts k 0 ≤ last
+  pub low : LENGTH ≤ first
+  pub high : last ≤ zero_at + START
+  pub sum : total (λ k. get_or ds k 0) (length starts) ≤ DURATIONS
+  pub short : w ≤ LENGTH
 
--- The first and the last start.
-pub record FirstAndLast (n : ℕ) (starts : List ℕ) (first last : ℕ) : Type 0 where
-  pub least : (k : ℕ) → k < n → first ≤ get_or starts k 0
-  pub greatest : (k : ℕ) → k < n → get_or starts k 0 ≤ last
-  pub starts_first : (k : ℕ) × (k < n) × (get_or starts k 0 ≡ first)
-  pub starts_last : (k : ℕ) × (k < n) × (get_or starts k 0 ≡ last)
+-- Both ends are starts of tasks.
+pub record EndsStart (starts : List ℕ) (first last : ℕ) : Type 0 where
+  pub starts_first : (k : ℕ) × (k < length starts) × (get_or starts k 0 ≡ first)
+  pub starts_last : (k : ℕ) × (k < length starts) × (get_or starts k 0 ≡ last)
 
 module _ (M : Tasks natural) (w first last : ℕ) where
   -- A stretch whose start counts, with the time covered.

@@ -1,6 +1,7 @@
 -- The busiest stretch of a fixed schedule: how much of a stretch is covered, what refuses the call, and what the call answers.
-use Rattle.std.specs.Prelude.{◌≡◌, List, [], ◌∷◌, ◌++◌, ℕ, ◌≤◌, ◌<◌, ℤ, pos, ◌+ℤ◌, ◌-ℤ◌, ◌≤ℤ◌, ◌<ℤ◌}
+use Rattle.std.specs.Prelude.{◌≡◌, List, [], ◌∷◌, ◌++◌, ℕ, ◌≤◌, ◌<◌, ℤ, pos, ◌+ℤ◌, ◌-ℤ◌, ◌≤ℤ◌, ◌<ℤ◌, Result}
 use Rattle.integers.specs.Refused as refused
+use Rattle.integers.specs.declared.refused.Refusal.{Refusal}
 use Rattle.integers.specs.Answers.{answered, refused_by}
 use Rattle.integers.specs.Tests.{Test, test, refusal}
 use Rattle.integers.specs.Extremes.{minℤ, maxℤ}
@@ -9,7 +10,7 @@ use Rattle.records.specs.declared.record.DisjunctivePropagator.{DisjunctivePropa
 use Rattle.records.specs.Records.{duration_for}
 use Rattle.fixed_schedules.specs.FixedSchedules.{tasks_on, fixed_tests}
 use Rattle.fixed_schedules.specs.Parameters.{length_within}
-use Rattle.busiest_stretch.specs.declared.answer.Busiest.{Busiest}
+use Rattle.busiest_stretch.specs.declared.answer.Stretch.{Stretch}
 use Rattle.busiest_stretch.specs.Numbers.{numbers_of_busiest}
 
 -- the time that [a, b) and [x, y) have in common: from the later start to the earlier end, or 0 where that is negative
@@ -41,13 +42,13 @@ abbrev pub stretch_number : DisjunctivePropagator → List ℤ → List ℤ → 
 stretch_number r es ls w = refusal (stretch_tests r es ls w)
 
 -- The answer is the greatest covered time and the least start that reaches it.
-pub record BusiestFound (r : DisjunctivePropagator) (es ls : List ℤ) (w : ℤ) (a : Busiest) : Type 0 where
+pub record BusiestFound (r : DisjunctivePropagator) (es ls : List ℤ) (w : ℤ) (a : Result Stretch Refusal) : Type 0 where
   pub time : ℕ
   pub start : ℤ
   pub answer : numbers_of_busiest a ≡ answered 0 (pos time ∷ start ∷ [])
   pub busiest : BusiestAt (tasks_on r es ls) (duration_for w) time start
 
 -- The first test that fails refuses the call; else the answer is the busiest stretch.
-pub record BusiestAnswered (r : DisjunctivePropagator) (es ls : List ℤ) (w : ℤ) (a : Busiest) : Type 0 where
+pub record BusiestAnswered (r : DisjunctivePropagator) (es ls : List ℤ) (w : ℤ) (a : Result Stretch Refusal) : Type 0 where
   pub refused : (stretch_number r es ls w ≡ 0 → ⊥) → numbers_of_busiest a ≡ refused_by (stretch_number r es ls w)
   pub found : stretch_number r es ls w ≡ 0 → BusiestFound r es ls w a

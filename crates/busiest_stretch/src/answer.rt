@@ -1,6 +1,6 @@
-// The greatest covered time with the least stretch start that reaches it, or the number that refused the call.
+// The greatest covered time, with the least stretch start that reaches it.
 #[derive(Clone, Copy)]
-pub enum Busiest {
-    Stretch(u32, i32),
-    Refused(u32),
+pub struct Stretch {
+    pub covered: u32,
+    pub start: i32,
 }

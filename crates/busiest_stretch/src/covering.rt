@@ -1,42 +1,36 @@
 // How much of a stretch the tasks cover, in moments.
 ghost use Rattle.std.specs.Prelude.{◌≡◌, ◌+◌, ◌≤◌, min, max};
-ghost use Rattle.integers.specs.Limits.{START};
-ghost use Rattle.integers.specs.Moments.{zero_at};
-ghost use Rattle.fixed_schedules.specs.Neighbours.{in_moments};
-ghost use Rattle.busiest_stretch.specs.StretchMoments.{common_in, covered_in, Slidable};
+ghost use Rattle.busiest_stretch.specs.StretchMoments.{common_in, tasks_at, covered_in, Slidable};
 
-use integers::limits::TASKS;
-use integers::numbers::{max, min};
+// The tasks by the moments of their starts, and a length of stretches, whose starts are from the first task's start to the last one's. All numbers are far from
+// 0 and from the largest u32.
+#[derive(Clone, Copy)]
+pub struct Slide<'a> {
+    pub starts: &'a [u32],
+    pub durations: &'a [u32],
+    pub length: u32,
+    pub first: u32,
+    pub last: u32,
+    ghost slidable: { Slidable starts.now durations.now «length» first last },
+}
 
 // The time that a task from a to b and a stretch from x to y have in common.
 fn common(a: u32, b: u32, x: u32, y: u32) -> u32
     ensures { result ≡ common_in a b x y }
 {
-    let from = max(a, x);
-    let to = min(b, y);
-    if to <= from {
-        return 0;
-    }
-    to - from
+    b.min(y).saturating_sub(a.max(x))
 }
 
-// The time of the stretch from x on that tasks cover.
-pub fn covered<'a>(
-    starts: &'a [u32; TASKS],
-    durations: &'a [u32; TASKS],
-    n: usize,
-    w: u32,
-    x: u32,
-) -> u32
-    requires { Slidable n starts.now durations.now w × (x ≤ zero_at + START) }
-    ensures { result ≡ covered_in (in_moments n starts.now durations.now) w x }
-{
-    let mut sum = 0;
-    let mut k = 0;
-    while k < n {
-        let end = starts[k] + durations[k];
-        sum += common(starts[k], end, x, x + w);
-        k += 1;
+impl Slide<'_> {
+    // The time of the stretch from x on that tasks cover.
+    pub fn covered(&self, x: u32) -> u32
+        requires { x ≤ self.now.last }
+        ensures { result ≡ covered_in (tasks_at self.now.starts.now self.now.durations.now) self.now.length x }
+    {
+        let mut sum = 0;
+        for (start, duration) in self.starts.iter().zip(self.durations) {
+            sum += common(*start, *start + *duration, x, x + self.length);
+        }
+        sum
     }
-    sum
 }

@@ -1,128 +1,103 @@
 // The stretch of a given length that tasks cover most. Covered time stops rising only where a task starts with the stretch or ends with it. So the least
 // start that reaches the most is a task's start, or the stretch from it ends with a task.
-ghost use Rattle.fixed_schedules.specs.Neighbours.{in_moments, Tested};
+ghost use Rattle.fixed_schedules.specs.Neighbours.{Tested};
 ghost use Rattle.busiest_stretch.specs.Stretches.{stretch_number, BusiestAnswered};
-ghost use Rattle.busiest_stretch.specs.StretchMoments.{Slidable, FirstAndLast, StretchHeld, Tried, BusiestMoment};
+ghost use Rattle.busiest_stretch.specs.StretchMoments.{tasks_at, EndsStart, StretchHeld, Tried, BusiestMoment};
 
-use crate::answer::Busiest;
-use crate::covering::covered;
+use crate::answer::Stretch;
+use crate::covering::Slide;
 use fixed_schedules::parameters::length_fits;
-use fixed_schedules::refusals::{FixedOrder, fixed_refusal};
+use fixed_schedules::refusals::fixed_order;
 use integers::limits::TASKS;
 use integers::moments::{moments_of, start_of};
 use integers::numbers::nat_of;
-use integers::refused;
+use integers::refused::Refusal;
 use records::record::DisjunctivePropagator;
 
 // A stretch by the moment of its start, and the time of it that tasks cover.
 #[derive(Clone, Copy)]
-pub struct Stretch {
-    pub covered: u32,
-    pub start: u32,
+struct Best {
+    covered: u32,
+    start: u32,
 }
 
-// The number that refuses a call, or 0 and the tasks by start: 20, 10, 3, 4, 14, 23.
-fn stretch_refusal(
-    record: DisjunctivePropagator,
+// The tasks by start, or why a call is refused: for its schedule, and then for its length.
+fn stretch_order(
+    record: &DisjunctivePropagator,
     earliest: &[i32],
     latest: &[i32],
     w: i32,
-) -> FixedOrder
-    ensures { Tested earliest.now (stretch_number «record» earliest.now latest.now w) result }
+) -> Result<[usize; TASKS], Refusal>
+    ensures { Tested earliest.now (stretch_number «record».now earliest.now latest.now w) result }
 {
-    let fixed = fixed_refusal(record, earliest, latest);
-    if fixed.number != 0 {
-        return fixed;
-    }
+    let order = fixed_order(record, earliest, latest)?;
     if !length_fits(w) {
-        return FixedOrder::refused_by(refused::LENGTH);
+        return Err(Refusal::Length);
     }
-    fixed
+    Ok(order)
 }
 
-// The better of the best stretch so far and the one from x on, where x counts as a start. Better covers more, or as much from an earlier start.
-fn better<'a>(
-    starts: &'a [u32; TASKS],
-    durations: &'a [u32; TASKS],
-    n: usize,
-    w: u32,
-    first: u32,
-    last: u32,
-    best: Stretch,
-    x: u32,
-) -> Stretch
-    requires { Slidable n starts.now durations.now w × FirstAndLast n starts.now first last
-        × StretchHeld (in_moments n starts.now durations.now) w first last best.covered best.start }
-    ensures { Tried (in_moments n starts.now durations.now) w first last x
-        best.covered best.start result.covered result.start }
-{
-    if x < first {
-        return best;
-    }
-    if last < x {
-        return best;
-    }
-    let time = covered(starts, durations, n, w, x);
-    if time < best.covered {
-        return best;
-    }
-    if time == best.covered {
-        if best.start <= x {
+impl Slide<'_> {
+    // The better of the best stretch so far and the one from x on, where x counts as a start. Better covers more, or as much from an earlier start.
+    fn better(&self, best: Best, x: u32) -> Best
+        requires { StretchHeld (tasks_at self.now.starts.now self.now.durations.now) self.now.length self.now.first self.now.last
+            best.covered best.start }
+        ensures { Tried (tasks_at self.now.starts.now self.now.durations.now) self.now.length self.now.first self.now.last x
+            best.covered best.start result.covered result.start }
+    {
+        if x < self.first || self.last < x {
             return best;
         }
+        let covered = self.covered(x);
+        if covered < best.covered || covered == best.covered && best.start <= x {
+            return best;
+        }
+        Best { covered, start: x }
     }
-    Stretch {
-        covered: time,
-        start: x,
+
+    // The best of the stretches that start with a task or end with one.
+    fn busiest(&self) -> Best
+        requires { EndsStart self.now.starts.now self.now.first self.now.last }
+        ensures { BusiestMoment (tasks_at self.now.starts.now self.now.durations.now) self.now.length self.now.first self.now.last
+            result.covered result.start }
+    {
+        let mut best = Best {
+            covered: self.covered(self.first),
+            start: self.first,
+        };
+        for (start, duration) in self.starts.iter().zip(self.durations) {
+            best = self.better(best, *start);
+            let back = *start + *duration - self.length;
+            best = self.better(best, back);
+        }
+        best
     }
 }
 
-// The best of the stretches that start with a task or end with one.
-fn busiest<'a>(
-    starts: &'a [u32; TASKS],
-    durations: &'a [u32; TASKS],
-    n: usize,
-    w: u32,
-    first: u32,
-    last: u32,
-) -> Stretch
-    requires { Slidable n starts.now durations.now w × FirstAndLast n starts.now first last }
-    ensures { BusiestMoment (in_moments n starts.now durations.now) w first last result.covered result.start }
-{
-    let mut best = Stretch {
-        covered: covered(starts, durations, n, w, first),
-        start: first,
-    };
-    let mut k = 0;
-    while k < n {
-        let start = starts[k];
-        best = better(starts, durations, n, w, first, last, best, start);
-        let back = start + durations[k] - w;
-        best = better(starts, durations, n, w, first, last, best, back);
-        k += 1;
-    }
-    best
-}
-
-// The greatest time that tasks cover of a stretch of length w, and the least start that reaches it.
+// The greatest time that tasks cover of a stretch of length w, and the least start that reaches it; or why the call is refused.
 pub fn busiest_stretch(
     record: DisjunctivePropagator,
     earliest: &[i32],
     latest: &[i32],
     w: i32,
-) -> Busiest
+) -> Result<Stretch, Refusal>
     ensures { BusiestAnswered «record» earliest.now latest.now w result }
 {
-    let fixed = stretch_refusal(record, earliest, latest, w);
-    if fixed.number != 0 {
-        return Busiest::Refused(fixed.number);
-    }
+    let order = stretch_order(&record, earliest, latest, w)?;
     let n = record.count;
-    let mut starts: [u32; TASKS] = [0; TASKS];
+    let by_start = &order[..n];
+    let mut starts = [0u32; TASKS];
     moments_of(&mut starts, earliest);
-    let length = nat_of(w);
-    let first = starts[fixed.order[0]];
-    let last = starts[fixed.order[n - 1]];
-    let best = busiest(&starts, &record.durations, n, length, first, last);
-    Busiest::Stretch(best.covered, start_of(best.start))
+    let slide = Slide {
+        starts: &starts[..n],
+        durations: &record.durations[..n],
+        length: nat_of(w),
+        first: starts[by_start[0]],
+        last: starts[by_start[n - 1]],
+    };
+    let best = slide.busiest();
+    Ok(Stretch {
+        covered: best.covered,
+        start: start_of(best.start),
+    })
 }

@@ -6,7 +6,11 @@ use native.Mathlib.Omega.{arith}
 use lib.IntN.{ℤ, pos, ◌+ℤ◌}
 use lib.ListN.{length, get_or, length-replicate}
 use Rattle.integers.specs.FilledLists.{no_tasks}
+use Rattle.std.specs.Prelude.{Ok, Err}
+use Rattle.integers.specs.declared.refused.Refusal.{Refusal}
+use Rattle.integers.specs.Refused.{number_of}
 use Rattle.integers.specs.Answers.{answered, refused_by}
+use Rattle.integers.proofs.RefusalNumbers.{never_zero}
 use Rattle.integers.specs.Limits.{TASKS}
 use Rattle.integers.proofs.FilledLists.{filled_at, filled_past, filled_length, get_d_fresh}
 use Rattle.scheduling.specs.Scheduling.{total}
@@ -15,7 +19,6 @@ use Rattle.fixed_schedules.specs.FixedSchedules.{start_at}
 use Rattle.fixed_schedules.proofs.AcceptedSchedules.{input_of, sortable, short}
 use Rattle.charges.specs.declared.answer.TaskCharges.{TaskCharges}
 use Rattle.charges.specs.declared.answer.Charges.{Charges}
-use Rattle.charges.specs.declared.answer.Charging.TheVariants.{Made, Refused}
 use Rattle.charges.specs.Tariff.{late_minutes, cost_of_minutes}
 use Rattle.charges.specs.Charges.{charge_at, without_charges, charges_number, AcceptedCharges, ChargesRight, Charged}
 use Rattle.charges.specs.ChargeLoop.{Chargeable, Summed}
@@ -31,13 +34,13 @@ module _ (ds : List ℕ) (es due : List ℤ) (i : ℕ) {cost : ℕ} {u v : ℤ} 
   charge_small = omega (arith, e, cost_most (late_minutes (u +ℤ pos (get_or ds i 0)) v))
 
 module _ (r : DisjunctivePropagator) (es ls due : List ℤ) where
-  pub refused : (m : ℕ) (b : TaskCharges) → m ≡ charges_number r es ls due → (m ≡ 0 → ⊥) → b ≡ without_charges → Charged r es ls due (record { charged = b; answer = Refused m })
-  refused m b e not none = record { refused = λ _. (ap refused_by e, none); made = λ z. absurd (not (e ∙ z)) }
+  pub refused : (why : Refusal) (b : TaskCharges) → number_of why ≡ charges_number r es ls due → b ≡ without_charges → Charged r es ls due (record { charged = b; answer = Err why })
+  refused why b e none = record { refused = λ _. (ap refused_by e, none); made = λ z. absurd (never_zero why (e ∙ z)) }
 
   -- no test failed
-  module _ {m : ℕ} (e : m ≡ charges_number r es ls due) (z : m ≡ 0) where
+  module _ (e : 0 ≡ charges_number r es ls due) where
     a : AcceptedCharges r es ls due
-    a = (accepted_charges r es ls due).0 (sym e ∙ z)
+    a = (accepted_charges r es ls due).0 (sym e)
 
     pub chargeable : Chargeable r.durations es due
     chargeable = record {
@@ -46,8 +49,8 @@ module _ (r : DisjunctivePropagator) (es ls due : List ℤ) where
       dues = record { long = a.dues.long ∙ sym a.schedule.counts.earliest; within = a.dues.within };
     }
 
-    pub made : (b : TaskCharges) → Summed r.durations es due b → Charged r es ls due (record { charged = b; answer = Made })
-    made b s = record { refused = λ not. absurd (not (sym e ∙ z)); made = λ _. (ap (λ (n : ℕ). answered 0 (pos n ∷ [])) right.total, right) }
+    pub made : (b : TaskCharges) → Summed r.durations es due b → Charged r es ls due (record { charged = b; answer = Ok tt })
+    made b s = record { refused = λ not. absurd (not (sym e)); made = λ _. (ap (λ (n : ℕ). answered 0 (pos n ∷ [])) right.total, right) }
       where
         f : ℕ → ℕ
         f = charge_at r.durations es due

@@ -1,6 +1,5 @@
 -- The tariff row by row: hours of one row cost its cents each, which is what the code sums. So the cost is as printed, at most 2,000, and no less for more minutes.
-use mathlib.Core.Path.{◌≡◌, sym, ap, subst, ◌∙◌}
-use mathlib.Core.List.{List}
+use mathlib.Core.Path.{◌≡◌, sym, ap, ◌∙◌}
 use Prim.Native.Nat.{ℕ, zero, suc, ◌+◌, ◌-◌, ◌*◌, ◌≤◌, ◌<◌, min}
 use native.Mathlib.Omega.{arith}
 use native.Mathlib.Decide.{dec_lt}
@@ -24,11 +23,8 @@ total_even f c a (suc d) h =
 
 -- ---- the rows
 -- row i of the table, and the hours that the rows before it go up to
-abbrev pub row_in : List Row → ℕ → Row
-row_in rows i = get_or rows i (record { upto = 0; cents = 0 })
-
 abbrev pub row_at : ℕ → Row
-row_at i = row_in tariff i
+row_at i = get_or tariff i (record { upto = 0; cents = 0 })
 
 abbrev pub from : ℕ → ℕ
 from zero = 0
@@ -112,29 +108,20 @@ far_late = as_printed (hours_begun MINUTES)
 
 -- ---- a turn of the code's loop
 -- After the rows before i, and row i of the table.
-pub record RowTurn (rows : List Row) (hours i done cost reached : ℕ) : Type 0 where
-  pub up : done ≤ reached
+pub record RowTurn (hours i done cost reached : ℕ) : Type 0 where
   pub next : reached ≡ min hours (from (i + 1))
-  pub sum : cost + (reached - done) * (row_in rows i).cents ≡ cost_of_hours reached
-  pub most : cost + (reached - done) * (row_in rows i).cents ≤ 2000
+  pub sum : cost + (reached - done) * (row_at i).cents ≡ cost_of_hours reached
+  pub most : cost + (reached - done) * (row_at i).cents ≤ 2000
 
-pub row_turn : {rows : List Row} (hours i : ℕ) {done cost reached : ℕ} → rows ≡ tariff → i < 2 → done ≡ min hours (from i) → cost ≡ cost_of_hours done → reached ≡ min hours (row_in rows i).upto
-    → RowTurn rows hours i done cost reached
-row_turn {rows} hours i {done} {cost} {reached} e q d k h = subst (λ (l : List Row). RowTurn l hours i done cost reached) (sym e) turn
+pub row_turn : (hours i : ℕ) {done cost reached : ℕ} → i < 2 → done ≡ min hours (from i) → cost ≡ cost_of_hours done → reached ≡ min hours (row_at i).upto → RowTurn hours i done cost reached
+row_turn hours i {done} {cost} {reached} q d k h = record {
+  next = h ∙ ap (λ (n : ℕ). min hours (from n)) (sym (add-one i));
+  sum = sum;
+  most = omega (arith, sum, hours_most reached);
+}
   where
-    here : reached ≡ min hours (row_at i).upto
-    here = h ∙ ap (λ (l : List Row). min hours (row_in l i).upto) e
-
     sum : cost + (reached - done) * (row_at i).cents ≡ cost_of_hours reached
-    sum = rw (k, here, d) (sym (row_more hours i q))
-
-    turn : RowTurn tariff hours i done cost reached
-    turn = record {
-      up = omega (arith, d, here, (ascends i q).0);
-      next = here ∙ ap (λ (n : ℕ). min hours (from n)) (sym (add-one i));
-      sum = sum;
-      most = omega (arith, sum, hours_most reached);
-    }
+    sum = rw (k, h, d) (sym (row_more hours i q))
 
 -- before the first row, and after the last
 pub rows_none : 0 ≡ cost_of_hours 0

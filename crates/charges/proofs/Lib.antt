@@ -1,4 +1,3 @@
 pub mod Costs
-pub mod Lateness
 pub mod ChargesRefused
 pub mod AcceptedCharges

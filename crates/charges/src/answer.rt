@@ -1,5 +1,6 @@
 // What the charges of a fixed schedule are answered by.
 use integers::limits::TASKS;
+use integers::refused::Refusal;
 
 // The charges by task number, in cents, 0 in the places that no task has, and their sum.
 #[derive(Clone, Copy)]
@@ -8,16 +9,9 @@ pub struct TaskCharges {
     pub total: u32,
 }
 
-// Whether charges were made, or the number that refused the call.
-#[derive(Clone, Copy)]
-pub enum Charging {
-    Made,
-    Refused(u32),
-}
-
-// The charges, and how the call was answered; a refused call has charges of zero.
+// The charges, and whether the call made them; a refused call has charges of zero. They stand beside the answer, as a refused call has them too.
 #[derive(Clone, Copy)]
 pub struct Charges {
     pub charged: TaskCharges,
-    pub answer: Charging,
+    pub answer: Result<(), Refusal>,
 }

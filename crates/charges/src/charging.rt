@@ -1,4 +1,4 @@
-// The charges: refused by number, or made by the tariff.
+// The charges: refused, or made by the tariff.
 ghost use Rattle.std.specs.Prelude.{◌≡◌, ◌≤◌, pos, ◌+ℤ◌};
 ghost use Rattle.integers.specs.Limits.{DURATIONS};
 ghost use Rattle.records.specs.Refusals.{StartFits};
@@ -6,7 +6,7 @@ ghost use Rattle.charges.specs.Tariff.{late_minutes, cost_of_minutes};
 ghost use Rattle.charges.specs.Charges.{DueFits, MINUTES, without_charges, Charged};
 ghost use Rattle.charges.specs.ChargeLoop.{Chargeable, Summed};
 
-use crate::answer::{Charges, Charging, TaskCharges};
+use crate::answer::{Charges, TaskCharges};
 use crate::rates::cost_of;
 use crate::refusals::charges_refusal;
 use integers::limits::TASKS;
@@ -19,11 +19,7 @@ fn minutes_late(start: i32, duration: u32, due: i32) -> u32
     ensures { (result ≡ late_minutes (start +ℤ pos duration) due) × (result ≤ MINUTES) }
 {
     let end = moment_of(start) + duration;
-    let moment = moment_of(due);
-    if end <= moment {
-        return 0;
-    }
-    end - moment
+    end.saturating_sub(moment_of(due))
 }
 
 // What a task costs.
@@ -41,12 +37,10 @@ fn charges_of(earliest: &[i32], durations: &[u32; TASKS], due: &[i32]) -> TaskCh
 {
     let mut out = [0u32; TASKS];
     let mut sum = 0;
-    let mut i = 0;
-    while i < earliest.len() {
-        let cost = charge_of(earliest[i], durations[i], due[i]);
+    for (i, start) in earliest.iter().enumerate() {
+        let cost = charge_of(*start, durations[i], due[i]);
         out[i] = cost;
         sum += cost;
-        i += 1;
     }
     TaskCharges {
         charges: out,
@@ -64,7 +58,7 @@ fn no_charges() -> TaskCharges
     }
 }
 
-// The charges of a fixed schedule; or charges of zero, with the number that refused the call.
+// The charges of a fixed schedule; or charges of zero, with the reason why the call is refused.
 pub fn charges(
     record: DisjunctivePropagator,
     earliest: &[i32],
@@ -73,15 +67,10 @@ pub fn charges(
 ) -> Charges
     ensures { Charged «record» earliest.now latest.now due.now result }
 {
-    let number = charges_refusal(record, earliest, latest, due);
-    if number != 0 {
-        return Charges {
-            charged: no_charges(),
-            answer: Charging::Refused(number),
-        };
-    }
-    Charges {
-        charged: charges_of(earliest, &record.durations, due),
-        answer: Charging::Made,
-    }
+    let answer = charges_refusal(&record, earliest, latest, due);
+    let charged = match answer {
+        Ok(()) => charges_of(earliest, &record.durations, due),
+        Err(_) => no_charges(),
+    };
+    Charges { charged, answer }
 }

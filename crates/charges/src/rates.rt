@@ -3,8 +3,6 @@ ghost use Rattle.std.specs.Prelude.{◌≡◌, ◌≤◌, min};
 ghost use Rattle.charges.specs.Tariff.{cost_of_minutes};
 ghost use Rattle.charges.specs.Charges.{MINUTES};
 
-use integers::numbers::min;
-
 // A row of the tariff: the last hour that it is for, and what each hour begun of it costs, in cents.
 #[derive(Clone, Copy)]
 pub struct Row {
@@ -29,17 +27,13 @@ pub fn cost_of(minutes: u32) -> u32
     requires { minutes ≤ MINUTES }
     ensures { result ≡ cost_of_minutes minutes }
 {
-    let hours = (minutes + 59) / 60;
-    let rows = TARIFF;
+    let hours = minutes.div_ceil(60);
     let mut done = 0;
     let mut cost = 0;
-    let mut i = 0;
-    while i < rows.len() {
-        let row = rows[i];
-        let reached = min(hours, row.upto);
+    for row in &TARIFF {
+        let reached = hours.min(row.upto);
         cost += (reached - done) * row.cents;
         done = reached;
-        i += 1;
     }
     cost
 }

@@ -1,10 +1,12 @@
-// What refuses a call for charges.
+// Why a call for charges is refused.
 ghost use Rattle.std.specs.Prelude.{◌≡◌, length};
+ghost use Rattle.integers.specs.Refused.{number_in};
 ghost use Rattle.integers.specs.Tests.{all_below};
 ghost use Rattle.charges.specs.Charges.{due_fits_at, charges_number};
 
-use fixed_schedules::refusals::fixed_refusal;
-use integers::refused;
+use fixed_schedules::refusals::fixed_order;
+use integers::limits::DUE;
+use integers::refused::Refusal;
 use records::record::DisjunctivePropagator;
 use records::refusals::all_within;
 
@@ -12,27 +14,21 @@ use records::refusals::all_within;
 fn dues_fit(due: &[i32]) -> bool
     ensures { result ≡ all_below (due_fits_at due.now) (length due.now) }
 {
-    all_within(due, -integers::limits::DUE, integers::limits::DUE)
+    all_within(due, -DUE, DUE)
 }
 
-// The number that refuses a call, or 0: 20, 10, 3, 4, 14, 19.
+// Why a call is refused: for its schedule, and then for its due moments.
 pub fn charges_refusal(
-    record: DisjunctivePropagator,
+    record: &DisjunctivePropagator,
     earliest: &[i32],
     latest: &[i32],
     due: &[i32],
-) -> u32
-    ensures { result ≡ charges_number «record» earliest.now latest.now due.now }
+) -> Result<(), Refusal>
+    ensures { number_in result ≡ charges_number «record».now earliest.now latest.now due.now }
 {
-    let fixed = fixed_refusal(record, earliest, latest);
-    if fixed.number != 0 {
-        return fixed.number;
+    fixed_order(record, earliest, latest)?;
+    if due.len() != record.count || !dues_fit(due) {
+        return Err(Refusal::Due);
     }
-    if due.len() != record.count {
-        return refused::DUE;
-    }
-    if !dues_fit(due) {
-        return refused::DUE;
-    }
-    0
+    Ok(())
 }

@@ -5,6 +5,10 @@ use Prim.Native.Nat.{ℕ, zero, suc}
 use lib.IntN.{ℤ}
 use lib.ListN.{length}
 use Rattle.integers.specs.Tests.{refusal}
+use Rattle.integers.specs.Refused.{number_of}
+use Rattle.integers.proofs.RefusalNumbers.{never_zero, reason_is}
+use Rattle.integers.specs.declared.refused.Refusal.{Refusal}
+use Rattle.integers.specs.Reasons.{reason_of}
 use Rattle.checking.specs.Atoms.{consequent_of}
 use Rattle.checking.proofs.Atoms.{right_lists_are}
 use Rattle.checking.specs.declared.variable_state.Application.{Application}
@@ -20,7 +24,8 @@ use Rattle.checker.specs.Checks.{concluded, check_after}
 use Rattle.checker.specs.declared.checker.Direction.{Direction}
 use Rattle.checker.specs.declared.checker.Direction.TheVariants.{Forward, Mirrored}
 use Rattle.checker.specs.MirroredChecks.{lower_as, upper_as, judged_as, check_towards}
-use Rattle.checking.specs.TaskBounds.{Bounds, bounds_among}
+use Rattle.checking.specs.TaskBounds.{bounds_among}
+use Rattle.checking.specs.declared.start_bounds.Bounds.{Bounds}
 use Rattle.checker.specs.CheckArrays.{Judgeable, Consequent}
 use Rattle.checker.proofs.Verdicts.{judgeable, mirrored_judgeable}
 
@@ -35,23 +40,23 @@ module _ (ds ps cs : List ℤ) where
     after n e = ap (λ (m : ℕ). check_after (judged_as direction ds) m ps cs) e
 
     -- 1, 2 or 5
-    pub is_refused : (n : ℕ) → n ≡ refusal (creation_tests ds) → (n ≡ 0 → ⊥) → Refused n ≡ check_towards direction ds ps cs
-    is_refused zero e z = absurd (z refl)
-    is_refused (suc n) e z = sym (after (suc n) (sym e))
+    pub is_refused : (why : Refusal) → number_of why ≡ refusal (creation_tests ds) → Refused why ≡ check_towards direction ds ps cs
+    is_refused why e = by (number_of why) refl
+      where
+        by : (n : ℕ) → number_of why ≡ n → Refused why ≡ check_towards direction ds ps cs
+        by zero z = absurd (never_zero why z)
+        by (suc n) z = ap Refused (sym (reason_is why) ∙ ap reason_of z) ∙ sym (after (suc n) (sym e ∙ z))
 
     -- 7, 6, 21 and contradictions
-    module _ {number : ℕ} (tested : number ≡ refusal (creation_tests ds)) (zero : number ≡ 0) where
-      ok : refusal (creation_tests ds) ≡ 0
-      ok = sym tested ∙ zero
-
+    module _ (accepted : 0 ≡ refusal (creation_tests ds)) where
       concludes : (x : Application) → applied.answer ≡ x → check_towards direction ds ps cs ≡ concluded (judged_as direction ds) (record { answer = x; state = applied.state }) (consequent_of cs)
-      concludes x e = after 0 ok ∙ ap (λ (y : Application). concluded (judged_as direction ds) (record { answer = y; state = applied.state }) (consequent_of cs)) e
+      concludes x e = after 0 (sym accepted) ∙ ap (λ (y : Application). concluded (judged_as direction ds) (record { answer = y; state = applied.state }) (consequent_of cs)) e
 
       module _ {w : Application} (is : w ≡ applied.answer) where
         pub contradicted : (x : ℕ) → w ≡ application.Contradiction x → Contradiction x ≡ check_towards direction ds ps cs
         contradicted x e = sym (concludes (application.Contradiction x) (sym is ∙ e))
 
-        pub refused_atoms : (n : ℕ) → w ≡ application.Refused n → Refused n ≡ check_towards direction ds ps cs
+        pub refused_atoms : (n : Refusal) → w ≡ application.Refused n → Refused n ≡ check_towards direction ds ps cs
         refused_atoms n e = sym (concludes (application.Refused n) (sym is ∙ e))
 
       pub concluded_by : applied.answer ≡ application.Consistent → (r : Verdict) → r ≡ judged_as direction ds applied.state (consequent_of cs) → r ≡ check_towards direction ds ps cs

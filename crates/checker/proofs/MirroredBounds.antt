@@ -16,7 +16,7 @@ use Rattle.integers.specs.WholeNumbers.{Within}
 use Rattle.checker.specs.StartBounds.{mirror_bound}
 use Rattle.checker.specs.Formulas.{known, value_of}
 use Rattle.chosen_sets.specs.TaskArrays.{HeldSet, Late}
-use Rattle.checking.specs.TaskBounds.{bounds_between}
+use Rattle.checking.specs.TaskBounds.{bounds_between, bounded_of, est_of, lst_of}
 use Rattle.checker.specs.BoundArrays.{moment_mirrored}
 use Rattle.checker.proofs.MirroredAtoms.{bound_some, mirrored_moment_is}
 
@@ -26,7 +26,7 @@ use Rattle.checker.proofs.MirroredAtoms.{bound_some, mirrored_moment_is}
 abbrev pub side : Option ℤ → Option ℤ → Option ℤ → ℕ
 side l u o = moment zero_at (cond (known l && known u) (value_of o) (negsuc 2147483647))
 
-pub sides : (l u : Option ℤ) → ((bounds_between l u).known ≡ known l && known u) × ((bounds_between l u).est ≡ side l u l) × ((bounds_between l u).lst ≡ side l u u)
+pub sides : (l u : Option ℤ) → (bounded_of (bounds_between l u) ≡ known l && known u) × (est_of (bounds_between l u) ≡ side l u l) × (lst_of (bounds_between l u) ≡ side l u u)
 sides (some x) (some y) = (refl, refl, refl)
 sides (some x) none = (refl, refl, refl)
 sides none u = (refl, refl, refl)
@@ -41,7 +41,7 @@ side_most l u e h = by (known l && known u) e h
     by false e h = omega arith
 
 -- a task has two bounds in mirrored time where it has two
-pub mirrored_known : (p : ℕ) (l u : Option ℤ) → (bounds_between l u).known ≡ known (mirror_bound p u) && known (mirror_bound p l)
+pub mirrored_known : (p : ℕ) (l u : Option ℤ) → bounded_of (bounds_between l u) ≡ known (mirror_bound p u) && known (mirror_bound p l)
 mirrored_known p (some x) (some y) = refl
 mirrored_known p (some x) none = refl
 mirrored_known p none (some y) = refl
@@ -55,8 +55,8 @@ abbrev pub Near : Option ℤ → Type 0
 Near o = (z : ℤ) → o ≡ some z → Within (VALUE + 1 + HOLES) z
 
 pub mirrored_sides : (p : ℕ) → p ≤ DURATIONS → (l u : Option ℤ) → Near l → Near u
-    → (moment_mirrored (bounds_between l u).known (bounds_between l u).lst p ≡ side (mirror_bound p u) (mirror_bound p l) (mirror_bound p u))
-    × (moment_mirrored (bounds_between l u).known (bounds_between l u).est p ≡ side (mirror_bound p u) (mirror_bound p l) (mirror_bound p l))
+    → (moment_mirrored (bounded_of (bounds_between l u)) (lst_of (bounds_between l u)) p ≡ side (mirror_bound p u) (mirror_bound p l) (mirror_bound p u))
+    × (moment_mirrored (bounded_of (bounds_between l u)) (est_of (bounds_between l u)) p ≡ side (mirror_bound p u) (mirror_bound p l) (mirror_bound p l))
 mirrored_sides p h (some x) (some y) v w = (moment_is p y h (w y refl), moment_is p x h (v x refl))
 mirrored_sides p h (some x) none v w = (refl, refl)
 mirrored_sides p h none (some y) v w = (refl, refl)

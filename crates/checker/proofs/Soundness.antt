@@ -14,6 +14,7 @@ use Rattle.integers.specs.FilledLists.{no_tasks}
 use Rattle.integers.specs.Limits.{TASKS, VARIABLES, DURATIONS, VALUE, PREMISES, HOLES}
 use Rattle.integers.specs.Moments.{moment, Above, zero_at}
 use Rattle.integers.specs.Tests.{refusal}
+use Rattle.integers.specs.declared.refused.Refusal.TheVariants as refusal
 use Rattle.integers.proofs.Bools.{bool, and_true, and_yes}
 use Rattle.integers.proofs.FilledLists.{filled_at}
 use Rattle.integers.proofs.Ints.{ints, up, dn}
@@ -94,7 +95,7 @@ module _ (ds : List ℤ) (ok : refusal (creation_tests ds) ≡ 0) where
       | inl y ↦
           let (p, q) = and_true (ltb a.variable (length ds)) (bounded (length ds) (duration_at ds) lower upper a.variable) y in
           implied_sound J durations_last (given premises (some a)) lower upper r a.variable (ltb-true a.variable (length ds) p) premises a refl refl q (holds_of _ (rw y at v))
-      | inr n ↦ absurd (other (Refused 8) (omega arith) (rw n at v))
+      | inr n ↦ absurd (other (Refused refusal.Consequent) (omega arith) (rw n at v))
     ]
 
     judged_passes : (c : Option Atom) → Reads (length ds) (given premises c) lower upper → PassesFormula J premises c → judged_by ds lower upper c ≡ Passed
@@ -104,7 +105,7 @@ module _ (ds : List ℤ) (ok : refusal (creation_tests ds) ≡ 0) where
         let small : i < length ds = subst (λ (n : ℕ). i < n) p.bounded.same_count p.formula.outside.small in
         let two : bounded (length ds) (duration_at ds) lower upper i ≡ true
         = sym (determined J durations_last (given premises (some a)) lower upper r _ p.ranges p.bounded i small) ∙ rw (eq-eqb i i refl) in
-        ap (λ (b : Bool). cond b (verdict (implied (length ds) (duration_at ds) lower upper i)) (Refused 8))
+        ap (λ (b : Bool). cond b (verdict (implied (length ds) (duration_at ds) lower upper i)) (Refused refusal.Consequent))
         (and_yes (ltb i (length ds)) (bounded (length ds) (duration_at ds) lower upper i) (lt-ltb i (length ds) small) two)
         ∙ ap verdict (implied_complete J durations_last (given premises (some a)) lower upper r i small premises a refl refl p)
 

@@ -12,6 +12,8 @@ use lib.ListN.{length}
 use borrow.Author.Tests.{ltb-true, lt-ltb, leb-true, leb-false}
 use Rattle.integers.specs.Answers.{Answer, answered, refused_by}
 use Rattle.integers.specs.Limits.{PREMISES}
+use Rattle.integers.specs.declared.refused.Refusal.{Refusal}
+use Rattle.integers.specs.Refused.{number_of}
 use Rattle.integers.specs.Tests.{Test, test, refusal, AllPassed}
 use Rattle.integers.proofs.Bools.{bool, and_true, and_yes}
 use Rattle.integers.proofs.Tests.{broken, accepts, accepted, refusal_next, refusal_here, refusal_after, refusal_before}
@@ -25,12 +27,13 @@ use Rattle.checking.specs.Answers.{application_numbers}
 use Rattle.checking.specs.Bounds.{lower_in, upper_in}
 use Rattle.checking.specs.Promises.{NoRoom, EmptiesFirst}
 use Rattle.checking.specs.States.{prepared}
-use Rattle.checking.proofs.StateNumbers.{other_kind, applications_apart}
+use Rattle.checking.proofs.StateNumbers.{other_kind, applications_apart, refused_as}
 use Rattle.checking.proofs.FirstContradiction.{prepared_contradiction}
 use Rattle.checking.proofs.Promises.{prepare_means}
 use Rattle.checking.proofs.RefusedAtoms.{prepared_7, prepared_21}
-use Rattle.records.specs.Records.{duration_at, creation_tests}
-use Rattle.records.proofs.Creation.{created_lawful}
+use Rattle.integers.specs.Reasons.{reason_of}
+use Rattle.records.specs.Records.{duration_at, creation_tests, number_of_creation, created_at}
+use Rattle.records.proofs.Creation.{created_lawful, answer_number}
 use Rattle.checker.specs.Formulas.{bounded, implied, overloaded}
 use Rattle.checker.proofs.Formulas.{Reads, not_no, least_of, greatest_of, none_of}
 use Rattle.checker.specs.declared.checker.Verdict.TheVariants.{Contradiction}
@@ -103,7 +106,7 @@ module _ (m : Direction) (ds ps cs : List ℤ) where
       by (application.Refused m) p = inl (ap application_numbers p ∙ (rw p at e))
 
   late_refused : (n : ℕ) → application_numbers (prepared ps cs).answer ≡ refused_by n → late ≡ refused_by n
-  late_refused n e = let p = applications_apart (prepared ps cs).answer (application.Refused n) e in rw p refl
+  late_refused n e = let (why, p, number) = refused_as (prepared ps cs).answer n e in rw (p, number) refl
 
   late_contradiction : (x : ℕ) → late ≡ answered 2 (pos x ∷ []) ↔ ((prepared ps cs).answer ≡ application.Contradiction x)
   late_contradiction x = (λ e. by (prepared ps cs).answer refl e, λ p. rw p refl)
@@ -111,7 +114,7 @@ module _ (m : Direction) (ds ps cs : List ℤ) where
       by : (w : Application) → (prepared ps cs).answer ≡ w → late ≡ answered 2 (pos x ∷ []) → (prepared ps cs).answer ≡ application.Contradiction x
       by application.Consistent p e = absurd (omega (arith, (judged_number state (consequent_of cs) (answered 2 (pos x ∷ [])) (omega arith) (rw p at e)).eight))
       by (application.Contradiction y) p e = applications_apart (prepared ps cs).answer (application.Contradiction x) (ap application_numbers p ∙ (rw p at e))
-      by (application.Refused n) p e = other_kind (refused_by n) (answered 2 (pos x ∷ [])) (rw p at e) (λ z. omega arith)
+      by (application.Refused why) p e = other_kind (refused_by (number_of why)) (answered 2 (pos x ∷ [])) (rw p at e) (λ z. omega arith)
 
   -- The words --------------------------------------------------------------------------------------------------------------------
 
@@ -133,9 +136,13 @@ module _ (m : Direction) (ds ps cs : List ℤ) where
       then ok e (inr y) z = is_late ok ∙ late_refused 7 ((prepared_7 ps cs).1 (omega (arith, leb-false (length ps) (3 * PREMISES + 2) y)))
           ∙ ap refused_by (sym (e ∙ refusal_here (test 7 (leb (length ps) (3 * PREMISES + 2))) (test 6 (right_lists ps cs) ∷ []) y))
 
+      -- a number that refuses the durations is a reason's
+      made : (k : ℕ) → refusal (creation_tests ds) ≡ suc k → number_of (reason_of (suc k)) ≡ suc k
+      made k z = ap (λ (n : ℕ). number_of_creation (created_at n ds).answer) (sym z) ∙ answer_number ds ∙ z
+
       by : (n : ℕ) → refusal (creation_tests ds) ≡ n → answer ≡ refused_by (refusal (word_tests ds ps cs))
       by zero z = then z (refusal_after (creation_tests ds) on_words (accepted (creation_tests ds) refl z)) (bool (leb (length ps) (3 * PREMISES + 2))) (bool (right_lists ps cs))
-      by (suc k) z = ap numbers_of_verdict (after ds ps cs m (suc k) z) ∙ ap refused_by (sym (refusal_before (creation_tests ds) on_words (λ w. let v : suc k ≡ 0 = sym z ∙ w in omega arith) ∙ z))
+      by (suc k) z = ap numbers_of_verdict (after ds ps cs m (suc k) z) ∙ ap refused_by (made k z) ∙ ap refused_by (sym (refusal_before (creation_tests ds) on_words (λ w. let v : suc k ≡ 0 = sym z ∙ w in omega arith) ∙ z))
 
   -- The atoms --------------------------------------------------------------------------------------------------------------------
 
@@ -164,8 +171,8 @@ module _ (m : Direction) (ds ps cs : List ℤ) where
 
     module _ (roomy : NoRoom atoms → ⊥) where
       -- the atoms are not refused
-      heard : (n : ℕ) → (prepared ps cs).answer ≡ application.Refused n → ⊥
-      heard n e = roomy (crowded n (ap application_numbers e)).1
+      heard : (why : Refusal) → (prepared ps cs).answer ≡ application.Refused why → ⊥
+      heard why e = roomy (crowded (number_of why) (ap application_numbers e)).1
 
       contradiction : (x : ℕ) → answer ≡ answered 2 (pos x ∷ []) ↔ EmptiesFirst atoms x
       contradiction x =

@@ -35,7 +35,9 @@ use Rattle.checker.specs.Checks.{verdict, judged_by, tasks_with}
 use Rattle.checker.specs.declared.checker.Direction.{Direction}
 use Rattle.checker.specs.declared.checker.Direction.TheVariants.{Forward, Mirrored}
 use Rattle.checker.specs.MirroredChecks.{lower_as, upper_as}
-use Rattle.checking.specs.TaskBounds.{bounds_at, Bounds, bounds_among}
+use Rattle.checking.specs.TaskBounds.{bounds_at, bounds_among, bounded_of, est_of, lst_of}
+use Rattle.integers.specs.declared.refused.Refusal.TheVariants as refusal
+use Rattle.checking.specs.declared.start_bounds.Bounds.{Bounds}
 use Rattle.checker.specs.CheckArrays.{Judgeable, Consequent}
 use Rattle.checker.proofs.Soundness.{given_as, reads_as, near_latest, durations_last, durations_most}
 
@@ -73,21 +75,21 @@ module _ {ds : List ℤ} {lower upper : ℕ → Option ℤ} {n : ℕ} {b : Bound
 
     module _ (w : Consequent words) (some_words : length words ≡ 0 → ⊥) (i : ℕ) (z : pos i ≡ get_or words 0 (pos 0)) where
       abbrev on : ℕ → Verdict
-      on k = cond (ltb k (length ds) && X k) (verdict (implied (length ds) (duration_at ds) lower upper k)) (Refused 8)
+      on k = cond (ltb k (length ds) && X k) (verdict (implied (length ds) (duration_at ds) lower upper k)) (Refused refusal.Consequent)
 
       judged_is : on i ≡ judged_by ds lower upper (consequent_of words)
       judged_is = ap (λ (x : ℤ). on (nat_abs x)) z ∙ ap (judged_by ds lower upper) (sym (consequent_one words (three w some_words)))
 
-      pub no_task : n ≤ i → Refused 8 ≡ judged_by ds lower upper (consequent_of words)
+      pub no_task : n ≤ i → Refused refusal.Consequent ≡ judged_by ds lower upper (consequent_of words)
       no_task q =
           rw (le-ltb i (length ds) (omega (arith, j.count))) at judged_is
 
       judged_on : i < n → {t : Bool} → get_or b.bounded i false ≡ t
-          → cond t (verdict (implied (length ds) (duration_at ds) lower upper i)) (Refused 8) ≡ judged_by ds lower upper (consequent_of words)
+          → cond t (verdict (implied (length ds) (duration_at ds) lower upper i)) (Refused refusal.Consequent) ≡ judged_by ds lower upper (consequent_of words)
       judged_on q {t} y =
           rw (lt-ltb i (length ds) (omega (arith, j.count)), sym (member i q) ∙ y) at judged_is
 
-      pub no_bound : i < n → get_or b.bounded i false ≡ false → Refused 8 ≡ judged_by ds lower upper (consequent_of words)
+      pub no_bound : i < n → get_or b.bounded i false ≡ false → Refused refusal.Consequent ≡ judged_by ds lower upper (consequent_of words)
       no_bound q y = judged_on q y
 
       pub bound_on : i < n → get_or b.bounded i false ≡ true → (o : Bool) → o ≡ comes_after J (X but i) i → verdict o ≡ judged_by ds lower upper (consequent_of words)
@@ -155,24 +157,24 @@ module _ (ds ps cs : List ℤ) (ok : refusal (creation_tests ds) ≡ 0) (consist
   }
 
   pub judgeable : Judgeable ds (lower_as Forward ds s) (upper_as Forward ds s) n B lengths
-  judgeable = in_time Forward B (λ k q. at (λ k. (bounds_at s k).known) false k q ∙ (sides (l k) (u k)).0)
-      (λ k q. (at (λ k. (bounds_at s k).est) 0 k q ∙ (sides (l k) (u k)).1, side_most (l k) (u k) (l k) (λ z e. near_latest z (near_l k q z e))))
-      (λ k q. (at (λ k. (bounds_at s k).lst) 0 k q ∙ (sides (l k) (u k)).2, side_most (l k) (u k) (u k) (λ z e. near_latest z (near_u k q z e))))
+  judgeable = in_time Forward B (λ k q. at (λ k. bounded_of (bounds_at s k)) false k q ∙ (sides (l k) (u k)).0)
+      (λ k q. (at (λ k. est_of (bounds_at s k)) 0 k q ∙ (sides (l k) (u k)).1, side_most (l k) (u k) (l k) (λ z e. near_latest z (near_l k q z e))))
+      (λ k q. (at (λ k. lst_of (bounds_at s k)) 0 k q ∙ (sides (l k) (u k)).2, side_most (l k) (u k) (u k) (λ z e. near_latest z (near_u k q z e))))
 
   -- in mirrored time each moment is that of the other bound
   mirrored_at : (old new : ℕ → ℕ) (k : ℕ) → k < n
       → get_or (filled (λ k. moment_mirrored (get_or B.bounded k false) (get_or (filled new n no_tasks) k 0) (get_or lengths k 0)) n (filled old n no_tasks)) k 0
-      ≡ moment_mirrored (bounds_at s k).known (new k) (duration_at ds k)
+      ≡ moment_mirrored (bounded_of (bounds_at s k)) (new k) (duration_at ds k)
   mirrored_at old new k q = filled_at _ n (filled old n no_tasks) 0 k q (omega (arith, few, filled_length old n no_tasks))
-      ∙ moment_alike (at (λ k. (bounds_at s k).known) false k q) (at new 0 k q) (lasts k q)
+      ∙ moment_alike (at (λ k. bounded_of (bounds_at s k)) false k q) (at new 0 k q) (lasts k q)
 
   pub mirrored_judgeable : Judgeable ds (lower_as Mirrored ds s) (upper_as Mirrored ds s) n (mirrored_bounds B lengths n) lengths
-  mirrored_judgeable = in_time Mirrored (mirrored_bounds B lengths n) (λ k q. at (λ k. (bounds_at s k).known) false k q ∙ mirrored_known (duration_at ds k) (l k) (u k))
+  mirrored_judgeable = in_time Mirrored (mirrored_bounds B lengths n) (λ k q. at (λ k. bounded_of (bounds_at s k)) false k q ∙ mirrored_known (duration_at ds k) (l k) (u k))
       (λ k q. (
-        mirrored_at (λ k. (bounds_at s k).est) (λ k. (bounds_at s k).lst) k q ∙ (mirrored_sides (duration_at ds k) (durations_most ds ok k q) (l k) (u k) (near_l k q) (near_u k q)).0,
+        mirrored_at (λ k. est_of (bounds_at s k)) (λ k. lst_of (bounds_at s k)) k q ∙ (mirrored_sides (duration_at ds k) (durations_most ds ok k q) (l k) (u k) (near_l k q) (near_u k q)).0,
         mirrored_most (duration_at ds k) (durations_last ds ok k q) (durations_most ds ok k q) (l k) (u k) (u k) (near_u k q),
       ))
       (λ k q. (
-        mirrored_at (λ k. (bounds_at s k).lst) (λ k. (bounds_at s k).est) k q ∙ (mirrored_sides (duration_at ds k) (durations_most ds ok k q) (l k) (u k) (near_l k q) (near_u k q)).1,
+        mirrored_at (λ k. lst_of (bounds_at s k)) (λ k. est_of (bounds_at s k)) k q ∙ (mirrored_sides (duration_at ds k) (durations_most ds ok k q) (l k) (u k) (near_l k q) (near_u k q)).1,
         mirrored_most (duration_at ds k) (durations_last ds ok k q) (durations_most ds ok k q) (l k) (u k) (l k) (near_l k q),
       ))

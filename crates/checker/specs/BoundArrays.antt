@@ -1,9 +1,10 @@
 -- What the code of the formula holds: the bounds of the tasks in arrays, and what the loop gathers.
-use Rattle.std.specs.Prelude.{Bool, true, false, cond, List, ℕ, ◌+◌, ◌-◌, min, max, get_or}
+use Rattle.std.specs.Prelude.{Bool, false, cond, List, ℕ, ◌+◌, ◌-◌, min, max, get_or, Option, Some, None}
 use Rattle.integers.specs.FilledLists.{filled}
 use Rattle.scheduling.specs.Scheduling.{natural, Tasks, TaskSet, total}
 use Rattle.chosen_sets.specs.TaskArrays.{HeldSet, Late}
-use Rattle.checking.specs.TaskBounds.{Bounds, bounds_in}
+use Rattle.checking.specs.TaskBounds.{bounds_in}
+use Rattle.checking.specs.declared.start_bounds.Bounds.{Bounds}
 use Rattle.checker.specs.declared.intervals.Interval.{Interval}
 use Rattle.checker.specs.Formulas.{any, lowest, highest}
 
@@ -26,14 +27,13 @@ pub record Bounding (J : Tasks natural) (Ω : TaskSet) (n : ℕ) (b : Bounds) (d
 
 -- What the loop gathers --------------------------------------------------------------------------------------------------------
 
-abbrev pub interval : Bool → ℕ → ℕ → ℕ → Interval
-interval some lb ub p = record { some = some; lb_interval = lb; ub_interval = ub; p = p }
+abbrev pub interval : ℕ → ℕ → ℕ → Interval
+interval lb ub p = record { lb_interval = lb; ub_interval = ub; p = p }
 
--- one task more, where it is chosen
-abbrev pub gathered : Interval → Bool → ℕ → ℕ → ℕ → Interval
-gathered v true est lct p = interval true (min v.lb_interval est) (max v.ub_interval lct) (v.p + p)
-gathered v false est lct p = v
+-- that of two sets with no task in common
+abbrev pub joined : Interval → Interval → Interval
+joined v w = interval (min v.lb_interval w.lb_interval) (max v.ub_interval w.ub_interval) (v.p + w.p)
 
--- the tasks of Ω below k
-abbrev pub interval_of : Tasks natural → TaskSet → ℕ → Interval
-interval_of J Ω k = interval (any Ω k) (lowest J Ω k) (highest J Ω k) (total (λ k. cond (Ω k) (J.duration k) 0) k)
+-- the tasks of Ω below k, where there is one
+abbrev pub interval_of : Tasks natural → TaskSet → ℕ → Option Interval
+interval_of J Ω k = cond (any Ω k) (Some (interval (lowest J Ω k) (highest J Ω k) (total (λ k. cond (Ω k) (J.duration k) 0) k))) None

@@ -3,7 +3,7 @@ use Rattle.std.specs.Prelude.{◌≡◌, true, List, ℕ, ◌≤◌, ℤ, length
 use Rattle.std.proofs.Math.Option.{Option}
 use Rattle.checking.specs.Atoms.{right_words}
 use Rattle.records.specs.Records.{duration_at}
-use Rattle.checking.specs.TaskBounds.{Bounds}
+use Rattle.checking.specs.declared.start_bounds.Bounds.{Bounds}
 use Rattle.checker.specs.Formulas.{bounded, tasks}
 use Rattle.checker.specs.BoundArrays.{Bounding}
 

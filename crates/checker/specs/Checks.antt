@@ -1,7 +1,7 @@
 -- The check: its answer for every input.
 use Rattle.std.specs.Prelude.{Bool, cond, ◌&&◌, List, [], ◌∷◌, ℕ, zero, suc, ltb, ℤ, pos, length}
 use Rattle.std.proofs.Math.Option.{Option, some, none}
-use Rattle.integers.specs.Refused as refused
+use Rattle.integers.specs.declared.refused.Refusal.TheVariants as refusal
 use Rattle.integers.specs.Tests.{refusal}
 use Rattle.scheduling.specs.Scheduling.{whole, Tasks, Atom}
 use Rattle.scheduling.specs.Words.{atom_words}
@@ -11,6 +11,7 @@ use Rattle.checking.specs.declared.variable_state.Application.TheVariants as app
 use Rattle.checking.specs.declared.variable_state.Applied.{Applied}
 use Rattle.checking.specs.Bounds.{lower_in, upper_in}
 use Rattle.checking.specs.States.{prepared}
+use Rattle.integers.specs.Reasons.{reason_of}
 use Rattle.records.specs.Records.{duration_at, creation_tests}
 use Rattle.checker.specs.Formulas.{bounded, overloaded, implied}
 use Rattle.checker.specs.declared.checker.Verdict.{Verdict}
@@ -26,7 +27,7 @@ judged_by ds lower upper none = verdict (overloaded (length ds) (duration_at ds)
 judged_by ds lower upper (some a) =
     cond (ltb a.variable (length ds) && bounded (length ds) (duration_at ds) lower upper a.variable)
     (verdict (implied (length ds) (duration_at ds) lower upper a.variable))
-    (Refused refused.CONSEQUENT)
+    (Refused refusal.Consequent)
 
 -- those that the state of the premises and the negated consequent answers: `induced_lower_bound` and `induced_upper_bound`
 abbrev pub judged : List ℤ → VariableState → Option Atom → Verdict
@@ -37,13 +38,13 @@ module _ (judge : VariableState → Option Atom → Verdict) where
   concluded r consequent = elim r.answer [
     | application.Consistent ↦ judge r.state consequent
     | application.Contradiction x ↦ Contradiction x
-    | application.Refused n ↦ Refused n
+    | application.Refused why ↦ Refused why
   ]
 
   -- 1, 2, 5 come first
   abbrev pub check_after : ℕ → List ℤ → List ℤ → Verdict
   check_after zero premises consequent = concluded (prepared premises consequent) (consequent_of consequent)
-  check_after (suc n) premises consequent = Refused (suc n)
+  check_after (suc n) premises consequent = Refused (reason_of (suc n))
 
 -- the answer: 1, 2, 5, 7, 6; then 21 or a contradiction, atom by atom; then 8; then the formula
 unfoldable pub check_of : List ℤ → List ℤ → List ℤ → Verdict

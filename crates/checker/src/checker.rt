@@ -2,7 +2,6 @@
 ghost use Rattle.std.specs.Prelude.{◌≡◌, List, ℕ, ℤ};
 ghost use Rattle.std.proofs.Math.Option.{Option};
 ghost use Rattle.checking.specs.Atoms.{consequent_of};
-ghost use Rattle.checking.specs.TaskBounds.{bounds_in};
 ghost use Rattle.checker.specs.Checked.{Checked, CheckedMirrored};
 ghost use Rattle.checker.specs.Checks.{verdict, judged_by};
 ghost use Rattle.checker.specs.MirroredChecks.{check_towards};
@@ -11,9 +10,11 @@ ghost use Rattle.checker.specs.CheckArrays.{Judgeable, Consequent};
 use crate::formula::{implied, overloaded};
 use crate::mirrored_bounds::mirror_bounds;
 use checking::prepared_bounds::prepare_bounds;
+use checking::start_bounds::Bounds;
 use checking::variable_state::Application;
 use integers::limits::TASKS;
-use integers::refused;
+use integers::numbers::nat_of;
+use integers::refused::Refusal;
 use records::record::creation_refusal;
 
 // The answer: a contradiction names the variable of the first failing atom.
@@ -22,7 +23,7 @@ pub enum Verdict {
     Passed,
     NotPassed,
     Contradiction(usize),
-    Refused(u32),
+    Refused(Refusal),
 }
 
 // Whether the formula is judged in the caller's time or in mirrored time.
@@ -33,45 +34,36 @@ pub enum Direction {
 }
 
 // What the formula says.
-fn verdict_of(holds: bool) -> Verdict
-    ensures { result ≡ verdict holds }
-{
-    if holds {
-        Verdict::Passed
-    } else {
-        Verdict::NotPassed
+impl From<bool> for Verdict {
+    ghost from_gives = { λ holds v. v ≡ verdict holds };
+
+    fn from(holds: bool) -> Verdict {
+        if holds {
+            Verdict::Passed
+        } else {
+            Verdict::NotPassed
+        }
     }
 }
 
 // The formula for the consequent, or for none. The bounds are lent, and the propagating task leaves the bounded ones.
-fn judge<'a>(
-    bounded: &mut [bool; TASKS],
-    est: &'a [u32; TASKS],
-    lst: &'a [u32; TASKS],
-    durations: &'a [u32; TASKS],
-    n: usize,
-    consequent: &[i32],
-) -> Verdict
+fn judge(bounds: &mut Bounds, durations: &[u32; TASKS], n: usize, consequent: &[i32]) -> Verdict
     requires { ((ds : List ℤ) × (lower : ℕ → Option ℤ) × (upper : ℕ → Option ℤ)
-        × Judgeable ds lower upper n (bounds_in bounded.old est.now lst.now) durations.now) × Consequent consequent.now }
-    ensures { (ds : List ℤ) (lower upper : ℕ → Option ℤ)
-        → Judgeable ds lower upper n (bounds_in bounded.old est.now lst.now) durations.now
+        × Judgeable ds lower upper n bounds.old durations.now) × Consequent consequent.now }
+    ensures { (ds : List ℤ) (lower upper : ℕ → Option ℤ) → Judgeable ds lower upper n bounds.old durations.now
         → result ≡ judged_by ds lower upper (consequent_of consequent.now) }
 {
-    if consequent.len() == 0 {
-        return verdict_of(overloaded(bounded, est, lst, durations, n));
+    let Some(variable) = consequent.first() else {
+        return overloaded(bounds, durations, n).into();
+    };
+    let propagating_task = nat_of(*variable) as usize;
+    if propagating_task >= n || !bounds.bounded[propagating_task] {
+        return Verdict::Refused(Refusal::Consequent);
     }
-    let propagating_task = integers::numbers::nat_of(consequent[0]) as usize;
-    if propagating_task >= n {
-        return Verdict::Refused(refused::CONSEQUENT);
-    }
-    if !bounded[propagating_task] {
-        return Verdict::Refused(refused::CONSEQUENT);
-    }
-    verdict_of(implied(bounded, est, lst, durations, n, propagating_task))
+    implied(bounds, durations, n, propagating_task).into()
 }
 
-// The check, with its formula judged in one direction.
+// The check, with its formula judged in one direction: the switch is this one call, and the definition of a check in either time has it too.
 fn check_as(
     direction: Direction,
     durations: &[i32],
@@ -80,25 +72,21 @@ fn check_as(
 ) -> Verdict
     ensures { result ≡ check_towards direction durations.now premises.now consequent.now }
 {
-    let mut lengths = [0u32; TASKS];
-    let number = creation_refusal(&mut lengths, durations);
-    if number != 0 {
-        return Verdict::Refused(number);
+    let mut lengths = [0; TASKS];
+    if let Err(why) = creation_refusal(&mut lengths, durations) {
+        return Verdict::Refused(why);
     }
     let n = durations.len();
-    let mut bounded = [false; TASKS];
-    let mut est = [0u32; TASKS];
-    let mut lst = [0u32; TASKS];
-    let answer = prepare_bounds(&mut bounded, &mut est, &mut lst, premises, consequent, n);
-    match answer {
+    let mut bounds = Bounds::none();
+    match prepare_bounds(&mut bounds, premises, consequent, n) {
         Application::Consistent => {
             if let Direction::Mirrored = direction {
-                mirror_bounds(&bounded, &mut est, &mut lst, &lengths, n);
+                mirror_bounds(&mut bounds, &lengths, n);
             }
-            judge(&mut bounded, &est, &lst, &lengths, n, consequent)
+            judge(&mut bounds, &lengths, n, consequent)
         }
         Application::Contradiction(x) => Verdict::Contradiction(x),
-        Application::Refused(number) => Verdict::Refused(number),
+        Application::Refused(why) => Verdict::Refused(why),
     }
 }
 

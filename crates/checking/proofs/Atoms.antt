@@ -1,11 +1,13 @@
 -- Atoms as words.
 use Rattle.scheduling.proofs.Every.{every_append, every_map}
-use native.Mathlib.Decide.{dec_lt}
+use native.Mathlib.Decide.{dec_lt, ℕ_discrete}
 use mathlib.Core.Path.{◌≡◌, refl, sym, ap, ◌∙◌}
-use mathlib.Core.Bool.{true, false, ◌&&◌}
+use mathlib.Core.Bool.{Bool, true, false, ◌&&◌}
+use Rattle.std.specs.List.{list_all}
+use Rattle.std.specs.Simd.{first_chunks}
 use mathlib.Core.List.{List, [], ◌∷◌}
 use mathlib.Core.Option.{some, none}
-use Prim.Native.Nat.{ℕ, zero, suc, ◌+◌, ◌≤◌, ◌<◌}
+use Prim.Native.Nat.{ℕ, zero, suc, ◌+◌, ◌*◌, ◌%◌, ◌≤◌, ◌<◌}
 use native.Mathlib.Omega.{arith}
 use borrow.Author.Tests.{leb-true, le-leb}
 use lib.IntN.{ℤ, pos, negsuc, neg_ℤ, nat_abs}
@@ -21,7 +23,11 @@ use Rattle.scheduling.proofs.Words.{atoms_none as no_words, atoms_more as three_
 use Rattle.integers.specs.WholeNumbers.{Within}
 use Rattle.holes.proofs.BoundSteps.{step_within, one_up, one_down}
 use Rattle.integers.proofs.WholeNumbers.{wider, lt_lt_z}
-use Rattle.checking.specs.Atoms.{atom_from, atoms_of, consequent_of, atom_place, right_variable, right_atom, right_words, right_lists, RightAtom, first}
+use Rattle.std.specs.Prelude.{Ok}
+use Rattle.std.specs.Result.{is_ok}
+use Rattle.checking.specs.declared.atomic_constraint.Comparison.{Comparison}
+use Rattle.checking.specs.declared.atomic_constraint.Comparison.TheVariants.{GreaterEqual, LessEqual, Equal, NotEqual}
+use Rattle.checking.specs.Atoms.{kind_of, comparison_at, atom_from, atoms_of, consequent_of, atom_place, right_variable, right_atom, right_words, right_lists, RightAtom, first}
 
 -- ---- what a right atom is
 pub right_variable_is : (x : ℤ) → right_variable x ≡ true → (pos 0 ≤ℤ x) × (nat_abs x < VARIABLES)
@@ -61,13 +67,23 @@ atom_right x k v r = rw (
     below (pos n) p q = omega ints
     below (negsuc n) p q = absurd (omega ints)
 
-pub third : (k : ℤ) → pos 0 ≤ℤ k → k ≤ℤ pos 3 → (k ≡ pos 0 → ⊥) → (k ≡ pos 1 → ⊥) → (k ≡ pos 2 → ⊥) → 3 ≡ nat_abs k
+-- a known kind is some comparison's, and a comparison's kind is its number
+pub kind_known : (k : ℤ) → pos 0 ≤ℤ k → k ≤ℤ pos 3 → is_ok (comparison_at k) ≡ true
 unfolding up dn
-third (pos zero) p q a b c = absurd (a refl)
-third (pos (suc zero)) p q a b c = absurd (b refl)
-third (pos (suc (suc zero))) p q a b c = absurd (c refl)
-third (pos (suc (suc (suc n)))) p q a b c = omega ints
-third (negsuc n) p q a b c = absurd (omega ints)
+kind_known (pos zero) p q = refl
+kind_known (pos (suc zero)) p q = refl
+kind_known (pos (suc (suc zero))) p q = refl
+kind_known (pos (suc (suc (suc zero)))) p q = refl
+kind_known (pos (suc (suc (suc (suc n))))) p q = absurd (omega ints)
+kind_known (negsuc n) p q = absurd (omega ints)
+
+pub kind_made : (k : ℤ) (c : Comparison) → comparison_at k ≡ Ok c → kind_of c ≡ nat_abs k
+kind_made (pos zero) c e = let f : GreaterEqual ≡ c = cc in ap kind_of (sym f)
+kind_made (pos (suc zero)) c e = let f : LessEqual ≡ c = cc in ap kind_of (sym f)
+kind_made (pos (suc (suc zero))) c e = let f : Equal ≡ c = cc in ap kind_of (sym f)
+kind_made (pos (suc (suc (suc zero)))) c e = let f : NotEqual ≡ c = cc in ap kind_of (sym f)
+kind_made (pos (suc (suc (suc (suc n))))) c e = cc
+kind_made (negsuc n) c e = cc
 
 -- ---- three words at a time
 module _ (l : List ℤ) (i : ℕ) (h : i + 3 ≤ length l) where
@@ -116,6 +132,34 @@ words_none = refl
 pub atoms_none : atoms_of [] ≡ []
 unfolding atoms_of
 atoms_none = refl
+
+-- three words in an array are an atom
+abbrev pub right_three : List ℤ → Bool
+right_three a = right_atom (get_or a 0 (pos 0)) (get_or a 1 (pos 0)) (get_or a 2 (pos 0))
+
+-- words that three divides are right where each three are an atom, and others are not
+pub words_threes : (n : ℕ) (l : List ℤ) → length l ≡ 3 * n → right_words l ≡ list_all right_three (first_chunks 3 n l)
+unfolding right_words
+words_threes zero [] e = refl
+words_threes zero (x ∷ l) e = absurd (omega arith)
+words_threes (suc n) [] e = absurd (omega arith)
+words_threes (suc n) (x ∷ []) e = absurd (omega arith)
+words_threes (suc n) (x ∷ k ∷ []) e = absurd (omega arith)
+words_threes (suc n) (x ∷ k ∷ v ∷ l) e = ap (λ (t : Bool). right_atom x k v && t) (words_threes n l (omega arith))
+
+pub words_left_over : (l : List ℤ) → (length l % 3 ≡ 0 → ⊥) → right_words l ≡ false
+unfolding right_words
+words_left_over [] n = absurd (n refl)
+words_left_over (x ∷ []) n = refl
+words_left_over (x ∷ k ∷ []) n = refl
+words_left_over (x ∷ k ∷ v ∷ l) n = rw (words_left_over l (λ e. n (omega arith))) (false_last (right_atom x k v))
+  where
+    false_last : (t : Bool) → (t && false) ≡ false
+    false_last true = refl
+    false_last false = refl
+
+pub three_divides : (l : List ℤ) → right_words l ≡ true → length l % 3 ≡ 0
+three_divides l y = elim (ℕ_discrete (length l % 3) 0) [ yes e ↦ e | no n ↦ clash y (words_left_over l n) ]
 
 -- right words are at least three, or none
 pub words_three : (l : List ℤ) → right_words l ≡ true → 0 < length l → 3 ≤ length l

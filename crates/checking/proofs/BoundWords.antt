@@ -20,7 +20,7 @@ use Rattle.checking.specs.declared.int_ext.IntExt.{IntExt}
 use Rattle.checking.specs.declared.int_ext.IntExt.TheVariants.{Int, NegativeInf, PositiveInf}
 use Rattle.checking.specs.declared.domain.Domain.{Domain}
 use Rattle.checking.specs.declared.bound_words.BoundWords.{BoundWords}
-use Rattle.checking.specs.declared.variable_state.Bound.TheVariants.{At}
+use Rattle.std.specs.Prelude.{Ok}
 use Rattle.checking.specs.Bounds.{finite}
 use Rattle.checking.specs.Domains.{le_ext, lt_ext, domain_of, consistent, Tight, tightened_lower, tightened_upper, applied}
 use Rattle.checking.specs.BoundWords.{pair_of, word_of_lower, word_of_upper, words_of, applied_words, consistent_words, bounds_of_task_in_words, HoleFree}
@@ -134,7 +134,7 @@ pub words_bounds : (d : Domain) → Tight d → HoleFree d → bounds_of_task_in
 words_bounds d t free = by d.lower_bound d.upper_bound t.upper_finite free.lower free.upper
   where
     by : (l u : IntExt) → lt_ext NegativeInf u ≡ true → ((z : ℤ) → l ≡ Int z → Within (VALUE + 1) z) → ((z : ℤ) → u ≡ Int z → Within (VALUE + 1) z)
-        → bounds_of_task_in_words (record { lower = word_of_lower l; upper = word_of_upper u }) ≡ bounds_between (finite (At l)) (finite (At u))
+        → bounds_of_task_in_words (record { lower = word_of_lower l; upper = word_of_upper u }) ≡ bounds_between (finite (Ok l)) (finite (Ok u))
     by NegativeInf u q f g = refl
     by PositiveInf u q f g = refl
     by (Int a) NegativeInf q f g = clash q refl

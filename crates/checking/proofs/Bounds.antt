@@ -3,10 +3,10 @@ use mathlib.Core.Path.{◌≡◌, refl, sym, ap, ap₂, ◌∙◌}
 use mathlib.Core.Logic.{⊎_elim}
 use mathlib.Core.List.{List}
 use mathlib.Core.Option.{some, none}
-use Prim.Native.Nat.{ℕ, ◌+◌, ◌<◌}
+use Prim.Native.Nat.{ℕ, ◌+◌, ◌≤◌, ◌<◌}
 use native.Mathlib.Omega.{arith}
 use lib.IntN.{ℤ, pos}
-use Rattle.integers.specs.Limits.{VARIABLES, VALUE, HOLES}
+use Rattle.integers.specs.Limits.{TASKS, VARIABLES, VALUE, HOLES}
 use Rattle.integers.proofs.Ints.{ints}
 use Rattle.scheduling.specs.Scheduling.{whole, Least, Largest, Atom, Admits, given}
 use Rattle.integers.specs.WholeNumbers.{Within}
@@ -22,11 +22,12 @@ use Rattle.checking.specs.declared.variable_state.Side.TheVariants.{Lower, Upper
 use Rattle.checking.proofs.Sides.{open_on}
 use Rattle.checking.specs.declared.variable_state.VariableState.{VariableState}
 use Rattle.checking.specs.declared.variable_state.Application.TheVariants.{Consistent}
-use Rattle.checking.specs.declared.variable_state.Bound.{Bound}
-use Rattle.checking.specs.declared.variable_state.Bound.TheVariants.{At}
+use Rattle.std.specs.Prelude.{Result, Ok}
+use Rattle.integers.specs.declared.refused.Refusal.{Refusal}
 use Rattle.checking.specs.Bounds.{finite, lower_in, upper_in}
 use Rattle.checking.specs.States.{AcceptedState, domain_at, bound_of, lower_of, upper_of, side_of, prepared}
-use Rattle.checking.specs.TaskBounds.{bounds_between, bounds_of_task, bounds_at}
+use Rattle.checking.specs.TaskBounds.{bounds_between, bounds_of_task, bounds_at, bounds_by, bounds_among}
+use Rattle.checking.proofs.FilledBounds.{bounds_same}
 use Rattle.checking.proofs.AcceptedStates.{state_accepted}
 use Rattle.checking.proofs.BoundLimits.{prepared_near}
 use Rattle.checking.proofs.PreparedStates.{prepared_accepted, prepared_admits}
@@ -34,17 +35,20 @@ use Rattle.checking.proofs.PreparedStates.{prepared_accepted, prepared_admits}
 -- An accepted state ------------------------------------------------------------------------------------------------------------
 
 -- the query answers with the bound of the domain
-at : (side : Domain → IntExt) (s : VariableState) → AcceptedState s → (x : ℕ) → x < VARIABLES → bound_of side s (pos x) ≡ At (side (domain_at s x))
+at : (side : Domain → IntExt) (s : VariableState) → AcceptedState s → (x : ℕ) → x < VARIABLES → bound_of side s (pos x) ≡ Ok (side (domain_at s x))
 unfolding bound_of
 at side s a x h = rw (state_accepted s.domains a, number_right x h) refl
 
 pub bounds_at_are : (s : VariableState) → AcceptedState s → (x : ℕ) → x < VARIABLES → bounds_of_task (domain_at s x) ≡ bounds_at s x
-bounds_at_are s a x h = ap₂ (λ (l u : Bound). bounds_between (finite l) (finite u)) (sym (at lower_of s a x h)) (sym (at upper_of s a x h))
+bounds_at_are s a x h = ap₂ (λ (l u : Result IntExt Refusal). bounds_between (finite l) (finite u)) (sym (at lower_of s a x h)) (sym (at upper_of s a x h))
+
+pub bounds_among_are : (s : VariableState) → AcceptedState s → (n : ℕ) → n ≤ TASKS → bounds_by (λ k. bounds_of_task (domain_at s k)) n ≡ bounds_among s n
+bounds_among_are s a n few = bounds_same (λ k. bounds_of_task (domain_at s k)) (bounds_at s) n (λ k h. bounds_at_are s a k (omega arith))
 
 -- A prepared state -------------------------------------------------------------------------------------------------------------
 
 -- a bound that is a number
-finite_is : (e : IntExt) (u : ℤ) → finite (At e) ≡ some u → e ≡ Int u
+finite_is : (e : IntExt) (u : ℤ) → finite (Ok e) ≡ some u → e ≡ Int u
 finite_is (Int z) u h = cc
 finite_is NegativeInf u h = absurd (let z : ◌≡◌ {A = ℕ} 0 1 = cc in omega arith)
 finite_is PositiveInf u h = absurd (let z : ◌≡◌ {A = ℕ} 0 1 = cc in omega arith)
@@ -63,14 +67,14 @@ module _ (premises consequent : List ℤ) (x : ℕ) (h : x < VARIABLES) where
   proper = (prepared_accepted premises consequent).each x h
 
   -- the domain's bound, as the query answers it
-  asked : (side : Side) → finite (At (side_of side d)) ≡ finite (bound_of (side_of side) s (pos x))
+  asked : (side : Side) → finite (Ok (side_of side d)) ≡ finite (bound_of (side_of side) s (pos x))
   asked side = ap finite (sym (at (side_of side) s (prepared_accepted premises consequent) x h))
 
   found : (side : Side) (u : ℤ) → finite (bound_of (side_of side) s (pos x)) ≡ some u → side_of side d ≡ Int u
   found side u e = finite_is (side_of side d) u (asked side ∙ e)
 
   none_found : (side : Side) → finite (bound_of (side_of side) s (pos x)) ≡ none → side_of side d ≡ open_on side
-  none_found side e = ⊎_elim (λ f. absurd (number f.0 (sym (ap (λ (b : IntExt). finite (At b)) f.1) ∙ asked side ∙ e))) (λ g. g) (bound_is d proper side)
+  none_found side e = ⊎_elim (λ f. absurd (number f.0 (sym (ap (λ (b : IntExt). finite (Ok b)) f.1) ∙ asked side ∙ e))) (λ g. g) (bound_is d proper side)
     where
       number : (u : ℤ) → some u ≡ none → ⊥
       number u e = let z : ◌≡◌ {A = ℕ} 0 1 = cc in omega arith

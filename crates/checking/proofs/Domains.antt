@@ -11,7 +11,7 @@ use lib.Seq.{length-take-le}
 use Rattle.integers.specs.Limits.{HOLES}
 use Rattle.holes.specs.Holes.{below, above, inserted, rank, padded}
 use Rattle.integers.specs.WholeNumbers.{has}
-use Rattle.holes.proofs.Ascending.{drop_rank, take_rank, rank_le, inserted_length, inserted_in, old_inserted, inserted_ascends, same_members}
+use Rattle.holes.proofs.Ascending.{drop_rank, rank_le, take_rank, inserted_length, inserted_in, old_inserted, inserted_ascends, same_members}
 use Rattle.holes.proofs.PaddedArrays.{padded_length}
 use Rattle.checking.specs.declared.int_ext.IntExt.{IntExt}
 use Rattle.checking.specs.declared.domain.Domain.{Domain}
@@ -36,21 +36,19 @@ module _ (d : Domain) (t : Tight d) where
   pub whole : domain_of d.lower_bound d.upper_bound (holes_of d) ≡ d
   whole = parts d.lower_bound d.upper_bound (sym t.unused) used
 
-  -- the holes above b, and below b, as code cuts them off
-  module _ (lower upper : IntExt) (b : ℤ) where
-    pub cut_above : (has (holes_of d) b ≡ true → ⊥)
-        → ◌≡◌ {A = Domain} (record { lower_bound = lower; upper_bound = upper; holes = padded (drop (rank b (holes_of d)) (holes_of d)); count = d.count - rank b (holes_of d) })
-        (domain_of lower upper (above b (holes_of d)))
+  -- the holes above b, and below b, as code cuts them off at the place of b, and how many they are
+  module _ (b : ℤ) {p : ℕ} (place : p ≡ rank b (holes_of d)) where
+    pub cut_above : (has (holes_of d) b ≡ true → ⊥) → (drop p (holes_of d) ≡ above b (holes_of d)) × (d.count - p ≡ length (above b (holes_of d)))
     cut_above free =
-        let e = drop_rank b (holes_of d) t.order free in
-        parts lower upper (ap padded e) (ap (λ (n : ℕ). n - rank b (holes_of d)) (sym used) ∙ sym (length-drop (rank b (holes_of d)) (holes_of d)) ∙ ap length e)
+        let e = ap (λ (n : ℕ). drop n (holes_of d)) place ∙ drop_rank b (holes_of d) t.order free in
+        (e, ap (λ (n : ℕ). n - p) (sym used) ∙ sym (length-drop p (holes_of d)) ∙ ap length e)
 
-    pub cut_below : ◌≡◌ {A = Domain} (record { lower_bound = lower; upper_bound = upper; holes = padded (take (rank b (holes_of d)) (holes_of d)); count = rank b (holes_of d) })
-        (domain_of lower upper (below b (holes_of d)))
+    pub cut_below : (take p (holes_of d) ≡ below b (holes_of d)) × (p ≡ length (below b (holes_of d)))
     cut_below =
-        let e = take_rank b (holes_of d) t.order in
-        parts lower upper (ap padded e) (sym (length-take-le (rank b (holes_of d)) (holes_of d) (rank_le b (holes_of d))) ∙ ap length e)
+        let e = ap (λ (n : ℕ). take n (holes_of d)) place ∙ take_rank b (holes_of d) t.order in
+        (e, sym (length-take-le p (holes_of d) (omega (arith, place, rank_le b (holes_of d)))) ∙ ap length e)
 
+  module _ (lower upper : IntExt) (b : ℤ) where
     pub put_in : (has (holes_of d) b ≡ true → ⊥)
         → ◌≡◌ {A = Domain} (record { lower_bound = lower; upper_bound = upper; holes = padded (inserted b (holes_of d)); count = d.count + 1 }) (domain_of lower upper (inserted b (holes_of d)))
     put_in new = parts lower upper refl (sym (inserted_length b (holes_of d) t.order new ∙ ap (λ (n : ℕ). n + 1) used))

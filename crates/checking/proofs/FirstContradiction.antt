@@ -6,6 +6,7 @@ use Prim.Native.Nat.{ℕ, ◌<◌}
 use native.Mathlib.Omega.{arith}
 use native.Mathlib.Decide.{dec_lt}
 use lib.IntN.{ℤ, pos}
+use Rattle.integers.specs.declared.refused.Refusal.{Refusal}
 use Rattle.integers.specs.Limits.{VARIABLES}
 use Rattle.scheduling.specs.Scheduling.{Atom, Allows, Admits, given}
 use Rattle.checking.specs.Atoms.{atoms_of, consequent_of}
@@ -88,7 +89,7 @@ module _ (premises consequent : List ℤ) where
     | no h ↦ kept atoms x f atoms f.after f.split (pos 0) (free atoms (given_known premises consequent (prepared_right premises consequent ok)) x h (pos 0))
   ]
 
-  pub prepared_contradiction : (x : ℕ) → ((n : ℕ) → (prepared premises consequent).answer ≡ Refused n → ⊥) → (prepared premises consequent).answer ≡ Contradiction x
+  pub prepared_contradiction : (x : ℕ) → ((n : Refusal) → (prepared premises consequent).answer ≡ Refused n → ⊥) → (prepared premises consequent).answer ≡ Contradiction x
       ↔ EmptiesFirst (given (atoms_of premises) (consequent_of consequent)) x
   prepared_contradiction x past_refusals = (contradicted x, λ f. by (prepared premises consequent).answer refl f)
     where

@@ -1,5 +1,5 @@
 -- The words of a state's bounds: an atom that makes no hole makes of them what it makes of the state.
-use mathlib.Core.Path.{◌≡◌, refl, sym, ap, ap₂, ◌∙◌, subst}
+use mathlib.Core.Path.{◌≡◌, refl, sym, ap, ◌∙◌, subst}
 use mathlib.Core.Bool.{Bool, true, false}
 use mathlib.Core.List.{List}
 use Prim.Native.Nat.{ℕ, ◌+◌, ◌≤◌, ◌<◌}
@@ -16,7 +16,7 @@ use Rattle.checking.specs.declared.bound_words.BoundWords.{BoundWords}
 use Rattle.checking.specs.declared.variable_state.VariableState.{VariableState}
 use Rattle.checking.specs.declared.variable_state.Application.TheVariants.{Consistent, Contradiction}
 use Rattle.checking.specs.Domains.{every_integer, consistent, applied, Tight}
-use Rattle.checking.specs.BoundWords.{pair_of, words_of, applied_words, consistent_words, bounds_of_task_in_words, words_at, bounds_in_words, HoleFree, HeldWords}
+use Rattle.checking.specs.BoundWords.{no_words, words_of, applied_words, consistent_words, bounds_of_task_in_words, words_at, bounds_in_words, HoleFree, HeldWords}
 use Rattle.checking.specs.States.{no_domain, domain_at, put, empty_state, stepped}
 use Rattle.checking.specs.TaskBounds.{bounds_at, bounds_among}
 use Rattle.checking.proofs.BoundLimits.{no_int, no_int'}
@@ -33,13 +33,12 @@ use Rattle.checking.proofs.States.{empty_accepted, put_same, put_other, put_each
 all_free : HoleFree every_integer
 all_free = record { none = refl; lower = λ u e. absurd (no_int u e); upper = λ u e. absurd (no_int' u e) }
 
-pub none_held : (lower upper : List ℕ) → lower ≡ replicate VARIABLES 0 → upper ≡ replicate VARIABLES 0 → HeldWords empty_state lower upper
-none_held lower upper p q = record {
-  lower_size = ap length p ∙ length-replicate {A = ℕ} VARIABLES 0;
-  upper_size = ap length q ∙ length-replicate {A = ℕ} VARIABLES 0;
+pub none_held : (words : List BoundWords) → words ≡ replicate VARIABLES no_words → HeldWords empty_state words
+none_held words p = record {
+  size = ap length p ∙ length-replicate VARIABLES no_words;
   accepted = empty_accepted;
   free = λ x h. subst HoleFree (sym (any x h)) all_free;
-  words = λ x h. ap₂ (λ (l u : List ℕ). words_at l u x) p q ∙ ap₂ pair_of (get_d_fresh 0 VARIABLES x) (get_d_fresh 0 VARIABLES x) ∙ ap words_of (sym (any x h));
+  each = λ x h. ap (λ (l : List BoundWords). words_at l x) p ∙ get_d_fresh no_words VARIABLES x ∙ ap words_of (sym (any x h));
 }
   where
     any : (x : ℕ) → x < VARIABLES → domain_at empty_state x ≡ every_integer
@@ -47,7 +46,7 @@ none_held lower upper p q = record {
 
 -- One atom ---------------------------------------------------------------------------------------------------------------------
 
-module _ (s : VariableState) (lower upper : List ℕ) (held : HeldWords s lower upper) (a : Atom) (known : a.variable < VARIABLES) (kind : a.kind < 3) (near : Within (VALUE + 1) a.value) where
+module _ (s : VariableState) (words : List BoundWords) (held : HeldWords s words) (a : Atom) (known : a.variable < VARIABLES) (kind : a.kind < 3) (near : Within (VALUE + 1) a.value) where
   abbrev d : Domain
   d = domain_at s a.variable
 
@@ -55,7 +54,7 @@ module _ (s : VariableState) (lower upper : List ℕ) (held : HeldWords s lower 
   d' = applied d a.kind a.value
 
   abbrev w : BoundWords
-  w = applied_words (words_at lower upper a.variable) a.kind a.value
+  w = applied_words (words_at words a.variable) a.kind a.value
 
   tight : Tight d
   tight = (held.accepted.each a.variable known).tight
@@ -67,7 +66,7 @@ module _ (s : VariableState) (lower upper : List ℕ) (held : HeldWords s lower 
   free' = applied_free d tight (held.free a.variable known) a.kind kind a.value near
 
   words' : w ≡ words_of d'
-  words' = ap (λ (v : BoundWords). applied_words v a.kind a.value) (held.words a.variable known)
+  words' = ap (λ (v : BoundWords). applied_words v a.kind a.value) (held.each a.variable known)
       ∙ sym (applied_words_are d tight (held.free a.variable known) a.kind kind a.value near)
 
   leaves : {t : Bool} → consistent_words w ≡ t → consistent d' ≡ t
@@ -82,39 +81,34 @@ module _ (s : VariableState) (lower upper : List ℕ) (held : HeldWords s lower 
     abbrev s' : VariableState
     s' = put s a.variable d'
 
-    abbrev lower' : List ℕ
-    lower' = set lower a.variable w.lower
+    abbrev after : List BoundWords
+    after = set words a.variable w
 
-    abbrev upper' : List ℕ
-    upper' = set upper a.variable w.upper
-
-    stored : (x : ℕ) → x < VARIABLES → words_at lower' upper' x ≡ words_of (domain_at s' x)
+    stored : (x : ℕ) → x < VARIABLES → words_at after x ≡ words_of (domain_at s' x)
     stored x h = elim (ℕ_discrete x a.variable) [
       | yes e ↦ rw (
         e,
-        get_or-set_same lower a.variable w.lower 0 (omega (arith, held.lower_size)),
-        get_or-set_same upper a.variable w.upper 0 (omega (arith, held.upper_size)),
+        get_or-set_same words a.variable w no_words (omega (arith, held.size)),
         put_same s a.variable d' (omega (arith, held.accepted.size)),
       ) words'
-      | no n ↦ rw (get_or-set_other lower a.variable x w.lower 0 n, get_or-set_other upper a.variable x w.upper 0 n, put_other s a.variable x d' n) (held.words x h)
+      | no n ↦ rw (get_or-set_other words a.variable x w no_words n, put_other s a.variable x d' n) (held.each x h)
     ]
 
     -- else they are the bounds of the state after it
-    pub held_next : (stepped s a ≡ record { answer = Consistent; state = s' }) × HeldWords s' lower' upper'
+    pub held_next : (stepped s a ≡ record { answer = Consistent; state = s' }) × HeldWords s' after
     held_next = (
       stepped_case s a (λ r. r ≡ record { answer = Consistent; state = s' }) (λ y. clash y (no_room d a.kind a.value kind)) (λ _ _. refl) (λ _ n. clash (leaves e) n),
       record {
-        lower_size = length-set lower a.variable w.lower ∙ held.lower_size;
-        upper_size = length-set upper a.variable w.upper ∙ held.upper_size;
+        size = length-set words a.variable w ∙ held.size;
         accepted = put_accepted s a.variable d' held.accepted known (record { tight = tight'; ordered = leaves e });
         free = λ x h. put_each HoleFree s a.variable d' (omega (arith, held.accepted.size)) free' x (held.free x h);
-        words = stored;
+        each = stored;
       },
     )
 
 -- The tasks' bounds ------------------------------------------------------------------------------------------------------------
 
-pub held_bounds : (s : VariableState) (lower upper : List ℕ) (n : ℕ) → n ≤ TASKS → HeldWords s lower upper → bounds_in_words lower upper n ≡ bounds_among s n
-held_bounds s lower upper n few held = bounds_same (λ k. bounds_of_task_in_words (words_at lower upper k)) (bounds_at s) n (λ k h.
+pub held_bounds : (s : VariableState) (words : List BoundWords) (n : ℕ) → n ≤ TASKS → HeldWords s words → bounds_in_words words n ≡ bounds_among s n
+held_bounds s words n few held = bounds_same (λ k. bounds_of_task_in_words (words_at words k)) (bounds_at s) n (λ k h.
     let known : k < VARIABLES = omega arith in
-    ap bounds_of_task_in_words (held.words k known) ∙ words_bounds (domain_at s k) (held.accepted.each k known).tight (held.free k known) ∙ bounds_at_are s held.accepted k known)
+    ap bounds_of_task_in_words (held.each k known) ∙ words_bounds (domain_at s k) (held.accepted.each k known).tight (held.free k known) ∙ bounds_at_are s held.accepted k known)

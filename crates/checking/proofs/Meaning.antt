@@ -9,6 +9,8 @@ use native.Mathlib.Omega.{arith}
 use lib.IntN.{ℤ}
 use lib.ListN.{get_or-replicate}
 use Rattle.integers.specs.Limits.{VARIABLES}
+use Rattle.integers.specs.declared.refused.Refusal.{Refusal}
+use Rattle.integers.specs.declared.refused.Refusal.TheVariants as refusal
 use Rattle.scheduling.specs.Scheduling.{Atom, Allows, Every, Admits}
 use Rattle.integers.proofs.WholeNumbers.{has_none}
 use Rattle.checking.specs.declared.domain.Domain.{Domain}
@@ -47,7 +49,7 @@ module _ (s : VariableState) (a : Atom) (acc : AcceptedState s) (known : a.varia
 
   pub step_consistent : (stepped s a).answer ≡ Consistent → Narrows s a (stepped s a).state
   step_consistent = stepped_case s a (λ r. r.answer ≡ Consistent → Narrows s a r.state)
-      (λ _ e. differ (Refused 21) Consistent e (omega arith))
+      (λ _ e. differ (Refused refusal.Holes) Consistent e (omega arith))
       (λ p q _.
       let l = applied_leaves d a.kind a.value (acc.each a.variable known).tight p in
       record {
@@ -59,12 +61,12 @@ module _ (s : VariableState) (a : Atom) (acc : AcceptedState s) (known : a.varia
 
   pub step_contradiction : (y : ℕ) → (stepped s a).answer ≡ Contradiction y → (y ≡ a.variable) × ((stepped s a).state ≡ s) × Excludes s a
   step_contradiction y = stepped_case s a (λ r. r.answer ≡ Contradiction y → (y ≡ a.variable) × (r.state ≡ s) × Excludes s a)
-      (λ _ e. differ (Refused 21) (Contradiction y) e (omega arith))
+      (λ _ e. differ (Refused refusal.Holes) (Contradiction y) e (omega arith))
       (λ _ _ e. differ Consistent (Contradiction y) e (omega arith))
       (λ p q e. (cc, refl, λ z m h. crossed_none d' q z ((applied_leaves d a.kind a.value (acc.each a.variable known).tight p).of z m h)))
 
-  pub step_refused : (n : ℕ) → (stepped s a).answer ≡ Refused n → (n ≡ 21) × ((stepped s a).state ≡ s) × (lacks_room s a ≡ true)
-  step_refused n = stepped_case s a (λ r. r.answer ≡ Refused n → (n ≡ 21) × (r.state ≡ s) × (lacks_room s a ≡ true))
+  pub step_refused : (n : Refusal) → (stepped s a).answer ≡ Refused n → (n ≡ refusal.Holes) × ((stepped s a).state ≡ s) × (lacks_room s a ≡ true)
+  step_refused n = stepped_case s a (λ r. r.answer ≡ Refused n → (n ≡ refusal.Holes) × (r.state ≡ s) × (lacks_room s a ≡ true))
       (λ p e. (cc, refl, p))
       (λ _ _ e. differ Consistent (Refused n) e (omega arith))
       (λ _ _ e. differ (Contradiction a.variable) (Refused n) e (omega arith))
@@ -136,11 +138,11 @@ all_contradiction_at (a ∷ rest) k s acc y =
     (λ x n q. let (u, v, w) = step_contradiction s a acc k.0 x n in let e : x ≡ y = cc in (here_stops a rest s acc k.0, sym u ∙ e, refl, w))
     (λ m _ q. differ (Refused m) (Contradiction y) q (omega arith))
 
-pub all_refused_at : (atoms : List Atom) → Known atoms → (s : VariableState) → AcceptedState s → (n : ℕ) → (apply_all atoms s).answer ≡ Refused n
-    → (n ≡ 21) × ((apply_all atoms s).state ≡ empty_state) × (p : Stops atoms s) × (lacks_room p.state p.atom ≡ true)
+pub all_refused_at : (atoms : List Atom) → Known atoms → (s : VariableState) → AcceptedState s → (n : Refusal) → (apply_all atoms s).answer ≡ Refused n
+    → (n ≡ refusal.Holes) × ((apply_all atoms s).state ≡ empty_state) × (p : Stops atoms s) × (lacks_room p.state p.atom ≡ true)
 all_refused_at [] k s acc n = λ e. differ Consistent (Refused n) (sym (ap (λ (r : Applied). r.answer) (all_end s)) ∙ e) (omega arith)
 all_refused_at (a ∷ rest) k s acc n =
-    all_case s a rest (λ r. r.answer ≡ Refused n → (n ≡ 21) × (r.state ≡ empty_state) × (p : Stops (a ∷ rest) s) × (lacks_room p.state p.atom ≡ true))
+    all_case s a rest (λ r. r.answer ≡ Refused n → (n ≡ refusal.Holes) × (r.state ≡ empty_state) × (p : Stops (a ∷ rest) s) × (lacks_room p.state p.atom ≡ true))
     (λ m q. let (u, v, p, w) = all_refused_at rest k.1 (stepped s a).state (stepped_accepted s a acc k.0) n q in (u, v, later_stops a rest s m p, w))
     (λ x _ q. differ (Contradiction x) (Refused n) q (omega arith))
     (λ m e q. let (u, v, w) = step_refused s a acc k.0 m e in (cc, refl, here_stops a rest s acc k.0, w))

@@ -9,6 +9,8 @@ use lib.Dec.{ltb}
 use lib.IntN.{ℤ}
 use lib.ListN.{length}
 use Rattle.integers.specs.Limits.{VARIABLES, PREMISES}
+use Rattle.integers.specs.declared.refused.Refusal.{Refusal}
+use Rattle.integers.specs.declared.refused.Refusal.TheVariants as refusal
 use Rattle.integers.proofs.Bools.{clash}
 use Rattle.scheduling.specs.Scheduling.{Atom, Every, Admits, given}
 use Rattle.checking.proofs.Choices.{choice}
@@ -48,10 +50,10 @@ module _ (premises consequent : List ℤ) where
   state = (prepared premises consequent).state
 
   -- past the tests 7 and 6
-  pub ran : (P : Applied → Type 0) → (right_lists premises consequent ≡ true → P (apply_all atoms empty_state)) → ((n : ℕ) → P (record { answer = Refused n; state = empty_state }))
+  pub ran : (P : Applied → Type 0) → (right_lists premises consequent ≡ true → P (apply_all atoms empty_state)) → ((why : Refusal) → P (record { answer = Refused why; state = empty_state }))
       → P (prepared premises consequent)
   unfolding prepared
-  ran P f g = choice P (ltb (3 * PREMISES + 2) (length premises)) (λ _. g 7) (λ _. choice P (right_lists premises consequent) f (λ _. g 6))
+  ran P f g = choice P (ltb (3 * PREMISES + 2) (length premises)) (λ _. g refusal.Premises) (λ _. choice P (right_lists premises consequent) f (λ _. g refusal.Atoms))
 
   pub prepared_right : (prepared premises consequent).answer ≡ Consistent → right_lists premises consequent ≡ true
   prepared_right = ran (λ r. r.answer ≡ Consistent → right_lists premises consequent ≡ true) (λ r _. r) (λ n e. differ (Refused n) Consistent e (omega arith))

@@ -10,6 +10,7 @@ use lib.IntN.{ℤ}
 use lib.ListN.{length}
 use Rattle.integers.specs.Answers.{Answer, refused_by}
 use Rattle.integers.specs.Limits.{PREMISES}
+use Rattle.integers.specs.declared.refused.Refusal.TheVariants as refusal
 use Rattle.integers.proofs.Bools.{bool, clash}
 use Rattle.integers.proofs.Tests.{broken}
 use Rattle.scheduling.specs.Scheduling.{Atom, given}
@@ -27,10 +28,10 @@ use Rattle.checking.proofs.Promises.{prepare_means}
 use Rattle.checking.proofs.States.{stepped_case, all_on}
 
 -- an atom without room, once it is reached, refuses the list
-full_step : (s : VariableState) (a : Atom) → lacks_room s a ≡ true → stepped s a ≡ record { answer = Refused 21; state = s }
-full_step s a y = stepped_case s a (λ r. r ≡ record { answer = Refused 21; state = s }) (λ _. refl) (λ n _. clash y n) (λ n _. clash y n)
+full_step : (s : VariableState) (a : Atom) → lacks_room s a ≡ true → stepped s a ≡ record { answer = Refused refusal.Holes; state = s }
+full_step s a y = stepped_case s a (λ r. r ≡ record { answer = Refused refusal.Holes; state = s }) (λ _. refl) (λ n _. clash y n) (λ n _. clash y n)
 
-full_list : (atoms : List Atom) (p : Reaches atoms) → lacks_room p.state p.atom ≡ true → apply_all atoms empty_state ≡ record { answer = Refused 21; state = empty_state }
+full_list : (atoms : List Atom) (p : Reaches atoms) → lacks_room p.state p.atom ≡ true → apply_all atoms empty_state ≡ record { answer = Refused refusal.Holes; state = empty_state }
 full_list atoms p y =
     ap (λ (l : List Atom). apply_all l empty_state) p.split
     ∙ all_append p.before (p.atom ∷ p.after) empty_state p.state p.reached

@@ -2,7 +2,7 @@
 use mathlib.Core.Path.{◌≡◌, sym, ap, ◌∙◌, subst}
 use mathlib.Core.Bool.{true, false}
 use mathlib.Core.List.{List}
-use Prim.Native.Nat.{ℕ, ◌+◌, ◌*◌, ◌^◌, ◌≤◌, ◌<◌}
+use Prim.Native.Nat.{ℕ, ◌+◌, ◌*◌, ◌/◌, ◌^◌, ◌≤◌, ◌<◌}
 use native.Mathlib.Omega.{arith}
 use borrow.Author.Tests.{lt-ltb, le-ltb}
 use lib.Dec.{ltb}
@@ -10,22 +10,24 @@ use lib.IntN.{ℤ}
 use lib.ListN.{length}
 use Rattle.integers.specs.Limits.{VARIABLES, PREMISES, VALUE}
 use Rattle.integers.specs.WholeNumbers.{Within}
+use Rattle.integers.specs.declared.refused.Refusal.{Refusal}
+use Rattle.integers.specs.declared.refused.Refusal.TheVariants as refusal
 use Rattle.scheduling.specs.Scheduling.{Atom, given}
 use Rattle.checking.specs.declared.variable_state.VariableState.{VariableState}
 use Rattle.checking.specs.declared.variable_state.Application.TheVariants.{Consistent, Contradiction, Refused}
 use Rattle.checking.specs.Atoms.{atoms_of, consequent_of, given_in, right_lists, right_from}
 use Rattle.checking.specs.States.{empty_state, stepped, apply_all, Applicable, prepared}
-use Rattle.checking.proofs.Atoms.{right_lists_are}
+use Rattle.checking.proofs.Atoms.{right_lists_are, three_divides}
 use Rattle.checking.proofs.Given.{Next, given_from, given_start, right_start, given_end, next}
 use Rattle.checking.proofs.States.{all_on, all_end}
 
 module _ (p c : List ℤ) where
   -- the tests 7 and 6, past which all atoms are applied
-  pub prepared_many : 3 * PREMISES + 2 < length p → prepared p c ≡ record { answer = Refused 7; state = empty_state }
+  pub prepared_many : 3 * PREMISES + 2 < length p → prepared p c ≡ record { answer = Refused refusal.Premises; state = empty_state }
   unfolding prepared
   prepared_many l = let many : ltb (3 * PREMISES + 2) (length p) ≡ true = lt-ltb (3 * PREMISES + 2) (length p) l in rw many
 
-  pub prepared_wrong : length p ≤ 3 * PREMISES + 2 → right_lists p c ≡ false → prepared p c ≡ record { answer = Refused 6; state = empty_state }
+  pub prepared_wrong : length p ≤ 3 * PREMISES + 2 → right_lists p c ≡ false → prepared p c ≡ record { answer = Refused refusal.Atoms; state = empty_state }
   unfolding prepared
   prepared_wrong l r = let few : ltb (3 * PREMISES + 2) (length p) ≡ false = le-ltb (3 * PREMISES + 2) (length p) l in rw (few, r)
 
@@ -45,11 +47,15 @@ module _ (p c : List ℤ) where
     pub value : Within (VALUE + 1) a.value
     pub consistent : (t : VariableState) → stepped s a ≡ record { answer = Consistent; state = t } → Remaining (i + 3) t
     pub contradicts : (x : ℕ) → stepped s a ≡ record { answer = Contradiction x; state = s } → prepared p c ≡ record { answer = Contradiction x; state = s }
-    pub refused : (n : ℕ) → stepped s a ≡ record { answer = Refused n; state = s } → prepared p c ≡ record { answer = Refused n; state = empty_state }
+    pub refused : (n : Refusal) → stepped s a ≡ record { answer = Refused n; state = s } → prepared p c ≡ record { answer = Refused n; state = empty_state }
 
   module _ (a : Applicable p c) where
     pub words_fit : length p + length c < 2 ^ 64
     words_fit = omega (arith, a.few, (right_lists_are p c a.right).1)
+
+    -- the words are three to an atom
+    pub threes : 3 * ((length p + length c) / 3) ≡ length p + length c
+    threes = let r = right_lists_are p c a.right in omega (arith, three_divides p r.0, three_divides c r.2)
 
     pub all_remain : Remaining 0 empty_state
     all_remain = record {

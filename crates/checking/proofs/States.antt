@@ -9,6 +9,8 @@ use lib.IntN.{ℤ}
 use lib.ListN.{length, length-set, length-replicate, get_or-replicate}
 use lib.Seq.{get_or-set_same, get_or-set_other}
 use Rattle.integers.specs.Limits.{VARIABLES}
+use Rattle.integers.specs.declared.refused.Refusal.{Refusal}
+use Rattle.integers.specs.declared.refused.Refusal.TheVariants as refusal
 use Rattle.scheduling.specs.Scheduling.{Atom, Every}
 use Rattle.integers.proofs.WholeNumbers.{has_none}
 use Rattle.checking.specs.declared.int_ext.IntExt.TheVariants.{NegativeInf, PositiveInf}
@@ -68,7 +70,7 @@ module _ (s : VariableState) (a : Atom) (r : Reduced) (is : r ≡ reduced (domai
   pub when_emptied : r.effect ≡ Emptied → stepped s a ≡ record { answer = Contradiction a.variable; state = s }
   when_emptied e = stepped_is ∙ rw e
 
-  pub when_full : r.effect ≡ Full → stepped s a ≡ record { answer = Refused 21; state = s }
+  pub when_full : r.effect ≡ Full → stepped s a ≡ record { answer = Refused refusal.Holes; state = s }
   when_full e = stepped_is ∙ rw e
 
 -- ---- a list of atoms
@@ -78,7 +80,7 @@ module _ (s : VariableState) (a : Atom) (rest : List Atom) where
   resume r = elim r.answer [
     | Consistent ↦ apply_all rest r.state
     | Contradiction x ↦ record { answer = Contradiction x; state = s }
-    | Refused n ↦ record { answer = Refused n; state = empty_state }
+    | Refused why ↦ record { answer = Refused why; state = empty_state }
   ]
 
   pub all_on : (r : Applied) → stepped s a ≡ r → apply_all (a ∷ rest) s ≡ resume r
@@ -91,7 +93,7 @@ module _ (s : VariableState) (a : Atom) (rest : List Atom) where
   -- the three ways that a list goes on
   pub all_case : (P : Applied → Type 0) → ((stepped s a).answer ≡ Consistent → P (apply_all rest (stepped s a).state))
       → ((x : ℕ) → (stepped s a).answer ≡ Contradiction x → P (record { answer = Contradiction x; state = s }))
-      → ((m : ℕ) → (stepped s a).answer ≡ Refused m → P (record { answer = Refused m; state = empty_state })) → P (apply_all (a ∷ rest) s)
+      → ((m : Refusal) → (stepped s a).answer ≡ Refused m → P (record { answer = Refused m; state = empty_state })) → P (apply_all (a ∷ rest) s)
   unfolding apply_all
   all_case P f g h = by (stepped s a).answer refl
     where
@@ -112,7 +114,7 @@ module _ (s : VariableState) (a : Atom) where
   abbrev d' : Domain
   d' = applied d a.kind a.value
 
-  pub stepped_case : (P : Applied → Type 0) → (needs_room d a.kind a.value ≡ true → P (record { answer = Refused 21; state = s }))
+  pub stepped_case : (P : Applied → Type 0) → (needs_room d a.kind a.value ≡ true → P (record { answer = Refused refusal.Holes; state = s }))
       → (needs_room d a.kind a.value ≡ false → consistent d' ≡ true → P (record { answer = Consistent; state = put s a.variable d' }))
       → (needs_room d a.kind a.value ≡ false → consistent d' ≡ false → P (record { answer = Contradiction a.variable; state = s })) → P (stepped s a)
   unfolding stepped

@@ -1,8 +1,10 @@
 -- Atoms as words, three to an atom: variable, kind (0 is ≥, 1 is ≤, 2 is =, 3 is ≠), value.
-use Rattle.std.specs.Prelude.{◌≡◌, Bool, true, false, cond, ◌&&◌, List, [], ◌∷◌, ℕ, ◌+◌, ◌-◌, ◌*◌, ◌≤◌, ◌<◌, leb, ltb, ℤ, pos, neg_ℤ, nat_abs, length, get_or, drop, ◌≤ℤ◌}
+use Rattle.std.specs.Prelude.{◌≡◌, Bool, true, false, cond, ◌&&◌, List, [], ◌∷◌, ℕ, zero, suc, ◌+◌, ◌-◌, ◌*◌, ◌≤◌, ◌<◌, leb, ltb, ℤ, pos, negsuc, neg_ℤ, nat_abs, length, get_or, drop, ◌≤ℤ◌, Result, Ok, Err}
 use Rattle.std.proofs.Math.Option.{Option, some, none}
 use Rattle.std.specs.Int.Signed.{le_z, lt_z}
 use Rattle.integers.specs.Limits.{VARIABLES, VALUE}
+use Rattle.integers.specs.declared.refused.Refusal.{Refusal}
+use Rattle.integers.specs.declared.refused.Refusal.TheVariants as refusal
 use Rattle.scheduling.specs.Scheduling.{Atom, negation}
 use Rattle.integers.specs.WholeNumbers.{Within}
 use Rattle.checking.specs.declared.atomic_constraint.AtomicConstraint.{AtomicConstraint}
@@ -15,6 +17,15 @@ kind_of GreaterEqual = 0
 kind_of LessEqual = 1
 kind_of Equal = 2
 kind_of NotEqual = 3
+
+-- the comparison of a kind's number, or number 6
+abbrev pub comparison_at : ℤ → Result Comparison Refusal
+comparison_at (pos zero) = Ok GreaterEqual
+comparison_at (pos (suc zero)) = Ok LessEqual
+comparison_at (pos (suc (suc zero))) = Ok Equal
+comparison_at (pos (suc (suc (suc zero)))) = Ok NotEqual
+comparison_at (pos (suc (suc (suc (suc n))))) = Err refusal.Atoms
+comparison_at (negsuc n) = Err refusal.Atoms
 
 -- the atom that a record of code stands for
 abbrev pub atom_of : AtomicConstraint → Atom

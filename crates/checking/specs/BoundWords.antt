@@ -1,5 +1,5 @@
 -- What the code holds of lists that make no hole: the bounds of each domain, as two words. The state that they stand for is that of States.antt.
-use Rattle.std.specs.Prelude.{◌≡◌, Bool, cond, ◌||◌, List, [], ℕ, zero, suc, ◌+◌, ◌-◌, ◌<◌, max, leb, eqb, ℤ, length, get_or}
+use Rattle.std.specs.Prelude.{◌≡◌, Bool, cond, ◌||◌, List, [], ℕ, zero, suc, ◌+◌, ◌-◌, ◌<◌, max, leb, eqb, ℤ, length, get_or, Option, None}
 use Rattle.integers.specs.Limits.{VARIABLES, VALUE, U32MAX}
 use Rattle.integers.specs.Moments.{moment, zero_at}
 use Rattle.integers.specs.WholeNumbers.{Within}
@@ -15,7 +15,8 @@ use Rattle.checking.specs.declared.variable_state.Applied.{Applied}
 use Rattle.checking.specs.declared.variable_state.VariableState.{VariableState}
 use Rattle.checking.specs.Domains.{holes_of}
 use Rattle.checking.specs.States.{AcceptedState, domain_at}
-use Rattle.checking.specs.TaskBounds.{no_bounds, two_bounds, Bounds, bounds_by}
+use Rattle.checking.specs.TaskBounds.{two_bounds, bounds_by}
+use Rattle.checking.specs.declared.start_bounds.Bounds.{Bounds}
 
 -- Words ------------------------------------------------------------------------------------------------------------------------
 
@@ -48,17 +49,21 @@ abbrev pub consistent_words : BoundWords → Bool
 consistent_words w = leb w.lower (U32MAX - w.upper)
 
 -- the bounds that they are, where there are two
-abbrev pub bounds_of_task_in_words : BoundWords → TaskBounds
-bounds_of_task_in_words w = cond (eqb w.lower 0 || eqb w.upper 0) no_bounds (two_bounds w.lower (U32MAX - w.upper))
+abbrev pub bounds_of_task_in_words : BoundWords → Option TaskBounds
+bounds_of_task_in_words w = cond (eqb w.lower 0 || eqb w.upper 0) None (two_bounds w.lower (U32MAX - w.upper))
 
 -- The words of all variables ---------------------------------------------------------------------------------------------------
 
-abbrev pub words_at : List ℕ → List ℕ → ℕ → BoundWords
-words_at lower upper x = pair_of (get_or lower x 0) (get_or upper x 0)
+-- no bounds
+abbrev pub no_words : BoundWords
+no_words = pair_of 0 0
+
+abbrev pub words_at : List BoundWords → ℕ → BoundWords
+words_at words x = get_or words x no_words
 
 -- the bounds of the first n
-abbrev pub bounds_in_words : List ℕ → List ℕ → ℕ → Bounds
-bounds_in_words lower upper = bounds_by (λ k. bounds_of_task_in_words (words_at lower upper k))
+abbrev pub bounds_in_words : List BoundWords → ℕ → Bounds
+bounds_in_words words = bounds_by (λ k. bounds_of_task_in_words (words_at words k))
 
 -- The domain has no hole, and its bounds are values of atoms.
 pub record HoleFree (d : Domain) : Type 0 where
@@ -67,15 +72,14 @@ pub record HoleFree (d : Domain) : Type 0 where
   pub upper : (u : ℤ) → d.upper_bound ≡ Int u → Within (VALUE + 1) u
 
 -- The words are the bounds of the state's domains, which have no holes.
-pub record HeldWords (s : VariableState) (lower upper : List ℕ) : Type 0 where
-  pub lower_size : length lower ≡ VARIABLES
-  pub upper_size : length upper ≡ VARIABLES
+pub record HeldWords (s : VariableState) (words : List BoundWords) : Type 0 where
+  pub size : length words ≡ VARIABLES
   pub accepted : AcceptedState s
   pub free : (x : ℕ) → x < VARIABLES → HoleFree (domain_at s x)
-  pub words : (x : ℕ) → x < VARIABLES → words_at lower upper x ≡ words_of (domain_at s x)
+  pub each : (x : ℕ) → x < VARIABLES → words_at words x ≡ words_of (domain_at s x)
 
 -- The answer is the prepared one, unless an atom that can make a hole ended it. Where all atoms were applied, the words are the prepared state's bounds.
-abbrev pub AppliedToWords : Applied → List ℕ → List ℕ → OnWords → Type 0
-AppliedToWords p lower upper on_words.Consistent = (p.answer ≡ application.Consistent) × HeldWords p.state lower upper
-AppliedToWords p lower upper (on_words.Contradiction x) = p.answer ≡ application.Contradiction x
-AppliedToWords p lower upper on_words.MakesHole = Unit {0}
+abbrev pub AppliedToWords : Applied → List BoundWords → OnWords → Type 0
+AppliedToWords p words on_words.Consistent = (p.answer ≡ application.Consistent) × HeldWords p.state words
+AppliedToWords p words (on_words.Contradiction x) = p.answer ≡ application.Contradiction x
+AppliedToWords p words on_words.MakesHole = Unit {0}

@@ -1,5 +1,5 @@
 -- What the open calls promise, in the values that a state admits. An answer is named by its numbers (Answers.antt).
-use Rattle.std.specs.Prelude.{◌≡◌, Bool, true, false, cond, List, [], ◌∷◌, ◌++◌, ◌↔◌, ℕ, ◌+◌, ◌*◌, ◌≤◌, ◌<◌, ℤ, pos, negsuc, nat_abs, length, ◌<ℤ◌}
+use Rattle.std.specs.Prelude.{◌≡◌, Bool, true, false, cond, List, [], ◌∷◌, ◌++◌, ◌↔◌, ℕ, ◌+◌, ◌*◌, ◌≤◌, ◌<◌, ℤ, pos, negsuc, nat_abs, length, ◌<ℤ◌, Result}
 use Rattle.integers.specs.Refused as refused
 use Rattle.integers.specs.Limits.{VARIABLES, PREMISES}
 use Rattle.integers.specs.Answers.{answered, refused_by}
@@ -9,8 +9,8 @@ use Rattle.checking.specs.Domains.{Admitted, needs_room}
 use Rattle.checking.specs.declared.variable_state.VariableState.{VariableState}
 use Rattle.checking.specs.declared.variable_state.Application.TheVariants as application
 use Rattle.checking.specs.declared.variable_state.Applied.{Applied}
-use Rattle.checking.specs.declared.variable_state.Truth.{Truth}
-use Rattle.checking.specs.declared.variable_state.Bound.{Bound}
+use Rattle.checking.specs.declared.int_ext.IntExt.{IntExt}
+use Rattle.integers.specs.declared.refused.Refusal.{Refusal}
 use Rattle.checking.specs.States.{domain_at, empty_state, accepted, apply_all}
 use Rattle.checking.specs.Answers.{application_numbers, numbers_of_truth, numbers_of_bound}
 
@@ -54,20 +54,20 @@ abbrev pub query_refusal : VariableState → Bool → ℕ
 query_refusal s right = cond (accepted s.domains) (cond right 0 6) 22
 
 -- is_true: every admitted value meets the atom; else some admitted value does not
-pub record TruthMeans (s : VariableState) (x k v : ℤ) (r : Truth) : Type 0 where
+pub record TruthMeans (s : VariableState) (x k v : ℤ) (r : Result Bool Refusal) : Type 0 where
   pub number : (numbers_of_truth r).number ≡ query_refusal s (right_atom x k v)
   pub holds : numbers_of_truth r ≡ answered 0 [] → (z : ℤ) → Admitted (domain_at s (nat_abs x)) z → Compares (nat_abs k) v z
   pub fails : numbers_of_truth r ≡ answered 1 [] → (z : ℤ) × Admitted (domain_at s (nat_abs x)) z × (Compares (nat_abs k) v z → ⊥)
 
 -- lower_bound: the least admitted value, or minus infinity where there is a value below each
-pub record LowerMeans (s : VariableState) (x : ℤ) (r : Bound) : Type 0 where
+pub record LowerMeans (s : VariableState) (x : ℤ) (r : Result IntExt Refusal) : Type 0 where
   pub number : (numbers_of_bound r).number ≡ query_refusal s (right_variable x)
   pub least : (u : ℤ) → numbers_of_bound r ≡ answered 0 (pos 0 ∷ u ∷ []) → Least whole (Admitted (domain_at s (nat_abs x))) u
   pub unbounded : numbers_of_bound r ≡ answered 0 (negsuc 0 ∷ []) → (z : ℤ) → (w : ℤ) × Admitted (domain_at s (nat_abs x)) w × (w <ℤ z)
   pub never : numbers_of_bound r ≡ answered 0 (pos 1 ∷ []) → ⊥
 
 -- upper_bound: the greatest admitted value, or plus infinity where there is a value above each
-pub record UpperMeans (s : VariableState) (x : ℤ) (r : Bound) : Type 0 where
+pub record UpperMeans (s : VariableState) (x : ℤ) (r : Result IntExt Refusal) : Type 0 where
   pub number : (numbers_of_bound r).number ≡ query_refusal s (right_variable x)
   pub largest : (u : ℤ) → numbers_of_bound r ≡ answered 0 (pos 0 ∷ u ∷ []) → Largest whole (Admitted (domain_at s (nat_abs x))) u
   pub unbounded : numbers_of_bound r ≡ answered 0 (pos 1 ∷ []) → (z : ℤ) → (w : ℤ) × Admitted (domain_at s (nat_abs x)) w × (z <ℤ w)

@@ -1,12 +1,13 @@
 -- The variable state: which states are accepted, and what the open calls answer. Each definition takes its tests in the order in which
 -- they are tried: 22 where a state is given, 7 where a list is, 6, then 21 or a contradiction, atom by atom.
-use Rattle.std.specs.Prelude.{◌≡◌, Bool, true, cond, ◌&&◌, List, [], ◌∷◌, ℕ, ◌+◌, ◌*◌, ◌≤◌, ◌<◌, ltb, ℤ, pos, nat_abs, length, get_or, set, replicate}
-use Rattle.integers.specs.Refused as refused
+use Rattle.std.specs.Prelude.{◌≡◌, Bool, true, cond, ◌&&◌, List, [], ◌∷◌, ℕ, ◌+◌, ◌*◌, ◌≤◌, ◌<◌, ltb, ℤ, nat_abs, length, get_or, set, replicate, Result, Ok, Err}
+use Rattle.integers.specs.declared.refused.Refusal.{Refusal}
+use Rattle.integers.specs.declared.refused.Refusal.TheVariants as refusal
 use Rattle.integers.specs.Limits.{VARIABLES, HOLES, PREMISES}
 use Rattle.scheduling.specs.Scheduling.{Atom, given}
 use Rattle.checking.specs.Atoms.{atom_from, atoms_of, consequent_of, right_variable, right_atom, right_lists}
 use Rattle.checking.specs.declared.int_ext.IntExt.{IntExt}
-use Rattle.checking.specs.declared.int_ext.IntExt.TheVariants.{Int}
+use Rattle.checking.specs.declared.int_ext.IntExt.TheVariants.{NegativeInf}
 use Rattle.checking.specs.declared.domain.Domain.{Domain}
 use Rattle.checking.specs.declared.domain.Effect.TheVariants.{Narrowed, Emptied, Full}
 use Rattle.checking.specs.declared.domain.Reduced.{Reduced}
@@ -14,10 +15,6 @@ use Rattle.checking.specs.Domains.{every_integer, accepted_domain, reduced, true
 use Rattle.checking.specs.declared.variable_state.VariableState.{VariableState}
 use Rattle.checking.specs.declared.variable_state.Application.TheVariants as application
 use Rattle.checking.specs.declared.variable_state.Applied.{Applied}
-use Rattle.checking.specs.declared.variable_state.Truth.{Truth}
-use Rattle.checking.specs.declared.variable_state.Truth.TheVariants as truth
-use Rattle.checking.specs.declared.variable_state.Bound.{Bound}
-use Rattle.checking.specs.declared.variable_state.Bound.TheVariants as bound
 use Rattle.checking.specs.declared.variable_state.Side.{Side}
 use Rattle.checking.specs.declared.variable_state.Side.TheVariants.{Lower, Upper}
 
@@ -25,7 +22,7 @@ use Rattle.checking.specs.declared.variable_state.Side.TheVariants.{Lower, Upper
 
 -- what stands past the end of an array, as the language has it
 abbrev pub no_domain : Domain
-no_domain = record { lower_bound = Int (pos 0); upper_bound = Int (pos 0); holes = []; count = 0 }
+no_domain = record { lower_bound = NegativeInf; upper_bound = NegativeInf; holes = []; count = 0 }
 
 -- the domain of variable x
 abbrev pub domain_at : VariableState → ℕ → Domain
@@ -63,7 +60,7 @@ abbrev pub outcome : VariableState → Atom → Reduced → Applied
 outcome s a r = elim r.effect [
   | Narrowed ↦ record { answer = application.Consistent; state = put s a.variable r.domain }
   | Emptied ↦ record { answer = application.Contradiction a.variable; state = s }
-  | Full ↦ record { answer = application.Refused refused.HOLES; state = s }
+  | Full ↦ record { answer = application.Refused refusal.Holes; state = s }
 ]
 
 -- an atom applied to the domain of its variable
@@ -74,15 +71,15 @@ stepped s a = outcome s a (reduced (domain_at s a.variable) a.kind a.value)
 unfoldable pub applied_to : VariableState → ℤ → ℤ → ℤ → Applied
 applied_to s x k v =
     cond (accepted s.domains)
-    (cond (right_atom x k v) (stepped s (atom_from x k v)) (record { answer = application.Refused refused.ATOMS; state = s }))
-    (record { answer = application.Refused refused.STATE; state = s })
+    (cond (right_atom x k v) (stepped s (atom_from x k v)) (record { answer = application.Refused refusal.Atoms; state = s }))
+    (record { answer = application.Refused refusal.State; state = s })
 
 -- is_true
-unfoldable pub truth_of : VariableState → ℤ → ℤ → ℤ → Truth
+unfoldable pub truth_of : VariableState → ℤ → ℤ → ℤ → Result Bool Refusal
 truth_of s x k v =
     cond (accepted s.domains)
-    (cond (right_atom x k v) (cond (true_of (domain_at s (nat_abs x)) (nat_abs k) v) truth.True truth.False) (truth.Refused refused.ATOMS))
-    (truth.Refused refused.STATE)
+    (cond (right_atom x k v) (Ok (true_of (domain_at s (nat_abs x)) (nat_abs k) v)) (Err refusal.Atoms))
+    (Err refusal.State)
 
 -- lower_bound, upper_bound
 abbrev pub lower_of : Domain → IntExt
@@ -95,9 +92,9 @@ abbrev pub side_of : Side → Domain → IntExt
 side_of Lower = lower_of
 side_of Upper = upper_of
 
-unfoldable pub bound_of : (Domain → IntExt) → VariableState → ℤ → Bound
-bound_of side s x = cond (accepted s.domains) (cond (right_variable x) (bound.At (side (domain_at s (nat_abs x)))) (bound.Refused refused.ATOMS))
-    (bound.Refused refused.STATE)
+unfoldable pub bound_of : (Domain → IntExt) → VariableState → ℤ → Result IntExt Refusal
+bound_of side s x = cond (accepted s.domains) (cond (right_variable x) (Ok (side (domain_at s (nat_abs x)))) (Err refusal.Atoms))
+    (Err refusal.State)
 
 -- A list of atoms --------------------------------------------------------------------------------------------------------------
 
@@ -107,7 +104,7 @@ apply_all [] s = record { answer = application.Consistent; state = s }
 apply_all (a ∷ rest) s = elim (stepped s a).answer [
   | application.Consistent ↦ apply_all rest (stepped s a).state
   | application.Contradiction x ↦ record { answer = application.Contradiction x; state = s }
-  | application.Refused n ↦ record { answer = application.Refused n; state = empty_state }
+  | application.Refused why ↦ record { answer = application.Refused why; state = empty_state }
 ]
 
 -- The lists pass the tests 7 and 6.
@@ -118,7 +115,7 @@ pub record Applicable (premises consequent : List ℤ) : Type 0 where
 -- prepare_for_conflict_check
 unfoldable pub prepared : List ℤ → List ℤ → Applied
 prepared premises consequent =
-    cond (ltb (3 * PREMISES + 2) (length premises)) (record { answer = application.Refused refused.PREMISES; state = empty_state })
+    cond (ltb (3 * PREMISES + 2) (length premises)) (record { answer = application.Refused refusal.Premises; state = empty_state })
     (cond (right_lists premises consequent)
     (apply_all (given (atoms_of premises) (consequent_of consequent)) empty_state)
-    (record { answer = application.Refused refused.ATOMS; state = empty_state }))
+    (record { answer = application.Refused refusal.Atoms; state = empty_state }))

@@ -1,19 +1,37 @@
 // Atoms: a variable compared with a value.
-ghost use Rattle.std.specs.Prelude.{◌≡◌, true, ◌+◌, ◌≤◌, ◌<◌, pos, nat_abs, length, drop, ◌≤ℤ◌};
+ghost use Rattle.std.specs.Prelude.{◌≡◌, true, ◌+◌, ◌≤◌, ◌<◌, length, drop};
 ghost use Rattle.integers.specs.Limits.{VALUE};
 ghost use Rattle.scheduling.specs.Scheduling.{negation};
 ghost use Rattle.integers.specs.WholeNumbers.{Within};
-ghost use Rattle.checking.specs.Atoms.{kind_of, atom_of, atom_from, atom_place, given_in, right_variable, right_atom, right_words, right_lists, right_from};
+ghost use Rattle.checking.specs.Atoms.{comparison_at, atom_of, atom_from, atom_place, given_in, right_variable, right_atom, right_words, right_lists, right_from};
 
-use integers::limits::VARIABLES;
+use integers::limits::{self, VARIABLES};
 use integers::numbers::nat_of;
+use integers::refused::Refusal;
 
-#[derive(Clone, Copy)]
+#[derive(Clone, Copy, PartialEq, Eq)]
 pub enum Comparison {
     GreaterEqual,
     LessEqual,
     Equal,
     NotEqual,
+}
+
+// The comparison of a kind's number.
+impl TryFrom<i32> for Comparison {
+    type Error = Refusal;
+
+    ghost try_from_gives = { λ kind r. r ≡ comparison_at kind };
+
+    fn try_from(kind: i32) -> Result<Comparison, Refusal> {
+        match kind {
+            0 => Ok(Comparison::GreaterEqual),
+            1 => Ok(Comparison::LessEqual),
+            2 => Ok(Comparison::Equal),
+            3 => Ok(Comparison::NotEqual),
+            _ => Err(Refusal::Atoms),
+        }
+    }
 }
 
 // The atom [identifier comparison value].
@@ -24,67 +42,31 @@ pub struct AtomicConstraint {
     pub value: i32,
 }
 
-// The comparison of a kind: 0 is >=, 1 is <=, 2 is =, 3 is !=.
-fn comparison_of(kind: i32) -> Comparison
-    requires { (pos 0 ≤ℤ kind) × (kind ≤ℤ pos 3) }
-    ensures { kind_of result ≡ nat_abs kind }
-{
-    if kind == 0 {
-        return Comparison::GreaterEqual;
-    }
-    if kind == 1 {
-        return Comparison::LessEqual;
-    }
-    if kind == 2 {
-        return Comparison::Equal;
-    }
-    Comparison::NotEqual
-}
-
 // Whether a variable is known.
 pub fn variable_is_accepted(variable: i32) -> bool
     ensures { result ≡ right_variable variable }
 {
-    if variable < 0 {
-        return false;
-    }
-    variable < VARIABLES as i32
+    0 <= variable && variable < VARIABLES as i32
 }
 
 // Whether three words are an atom: a known variable, a known kind, a value within the limits.
+#[tactic(auto, unfolding(crate::specs::Atoms::right_atom))]
 pub fn atom_is_accepted(variable: i32, kind: i32, value: i32) -> bool
     ensures { result ≡ right_atom variable kind value }
 {
-    if !variable_is_accepted(variable) {
-        return false;
-    }
-    if kind < 0 {
-        return false;
-    }
-    if kind > 3 {
-        return false;
-    }
-    if value < -integers::limits::VALUE {
-        return false;
-    }
-    value <= integers::limits::VALUE
+    variable_is_accepted(variable)
+        && Comparison::try_from(kind).is_ok()
+        && -limits::VALUE <= value
+        && value <= limits::VALUE
 }
 
 // Whether the words are a multiple of three, and every three of them an atom.
 fn words_are_accepted(words: &[i32]) -> bool
     ensures { result ≡ right_words words.now }
 {
-    let mut i = 0;
-    while i < words.len() {
-        if words.len() - i < 3 {
-            return false;
-        }
-        if !atom_is_accepted(words[i], words[i + 1], words[i + 2]) {
-            return false;
-        }
-        i += 3;
-    }
-    true
+    let (atoms, rest) = words.as_chunks::<3>();
+    rest.is_empty()
+        && atoms.iter().all(|[variable, kind, value]| atom_is_accepted(*variable, *kind, *value))
 }
 
 // The atom of the three words from place i on.
@@ -103,7 +85,7 @@ impl AtomicConstraint {
     {
         AtomicConstraint {
             identifier: nat_of(variable) as usize,
-            comparison: comparison_of(kind),
+            comparison: Comparison::try_from(kind).unwrap(),
             value,
         }
     }
@@ -113,30 +95,16 @@ impl AtomicConstraint {
         requires { Within VALUE self.value }
         ensures { atom_of result ≡ negation (atom_of self) }
     {
-        let identifier = self.identifier;
-        let comparison = self.comparison;
-        let value = self.value;
-        match comparison {
-            Comparison::GreaterEqual => AtomicConstraint {
-                identifier,
-                comparison: Comparison::LessEqual,
-                value: value - 1,
-            },
-            Comparison::LessEqual => AtomicConstraint {
-                identifier,
-                comparison: Comparison::GreaterEqual,
-                value: value + 1,
-            },
-            Comparison::Equal => AtomicConstraint {
-                identifier,
-                comparison: Comparison::NotEqual,
-                value,
-            },
-            Comparison::NotEqual => AtomicConstraint {
-                identifier,
-                comparison: Comparison::Equal,
-                value,
-            },
+        let (comparison, value) = match self.comparison {
+            Comparison::GreaterEqual => (Comparison::LessEqual, self.value - 1),
+            Comparison::LessEqual => (Comparison::GreaterEqual, self.value + 1),
+            Comparison::Equal => (Comparison::NotEqual, self.value),
+            Comparison::NotEqual => (Comparison::Equal, self.value),
+        };
+        AtomicConstraint {
+            identifier: self.identifier,
+            comparison,
+            value,
         }
     }
 }
@@ -153,14 +121,9 @@ pub(crate) fn given_at(premises: &[i32], consequent: &[i32], i: usize) -> Atomic
 }
 
 // Whether the premises are atoms, and the consequent one atom or none.
+#[tactic(auto, unfolding(crate::specs::Atoms::right_lists))]
 pub(crate) fn lists_are_accepted(premises: &[i32], consequent: &[i32]) -> bool
     ensures { result ≡ right_lists premises.now consequent.now }
 {
-    if !words_are_accepted(premises) {
-        return false;
-    }
-    if 3 < consequent.len() {
-        return false;
-    }
-    words_are_accepted(consequent)
+    words_are_accepted(premises) && consequent.len() <= 3 && words_are_accepted(consequent)
 }

@@ -1,9 +1,9 @@
 // Domains: a lower bound, an upper bound, and the holes between them.
-ghost use Rattle.std.specs.Prelude.{◌≡◌, true, false, ◌+◌, ◌≤◌, length, take};
+ghost use Rattle.std.specs.Prelude.{◌≡◌, true, false, ◌+◌, ◌≤◌, length};
 ghost use Rattle.integers.specs.Limits.{HOLES, VALUE};
 ghost use Rattle.integers.specs.WholeNumbers.{Within};
 ghost use Rattle.checking.specs.Atoms.{kind_of};
-ghost use Rattle.checking.specs.Domains.{Tight, every_integer, ascend, accepted_domain};
+ghost use Rattle.checking.specs.Domains.{Tight, holes_of, every_integer, ascend, accepted_domain};
 ghost use Rattle.checking.specs.Domains.{tightened_lower, tightened_upper, less_lower, less_upper, between};
 ghost use Rattle.checking.specs.Domains.{hole_added, crowded, consistent, settled, reduced, true_of};
 
@@ -48,47 +48,52 @@ impl Domain {
         }
     }
 
+    // The holes in use.
+    fn holes(&self) -> &[i32]
+        requires { self.now.count ≤ HOLES }
+        ensures { result.now ≡ holes_of self.now }
+    {
+        &self.holes[..self.count]
+    }
+
     // Tighten the lower bound, past holes, and drop the holes that are no longer above it.
+    #[tactic(auto, unfolding(crate::specs::Domains::tightened_lower))]
     fn tighten_lower_bound(self, bound: i32) -> Domain
         requires { Tight self × Within (VALUE + 2) bound }
         ensures { result ≡ tightened_lower self bound }
     {
-        let lower_bound = self.lower_bound;
-        let upper_bound = self.upper_bound;
-        let holes = self.holes;
-        let count = self.count;
-        if IntExt::Int(bound).le(lower_bound) {
+        if IntExt::Int(bound) <= self.lower_bound {
             return self;
         }
-        let raised = hole_list::first_from(holes, count, bound);
-        let from = hole_list::place(holes, count, raised);
+        let holes = self.holes();
+        let raised = hole_list::first_from(holes, bound);
+        let from = hole_list::place(holes, raised);
         Domain {
             lower_bound: IntExt::Int(raised),
-            upper_bound,
-            holes: hole_list::part(holes, from, count),
-            count: count - from,
+            holes: hole_list::padded(&holes[from..]),
+            count: self.count - from,
+            ..self
         }
     }
 
-    // Tighten the upper bound, past holes, and drop the holes that are no longer below it.
+    // Tighten the upper bound, past holes, and drop the holes that are no longer below it. The two bounds move past other holes and keep other parts of the list:
+    // a function of both would take all that differs as arguments.
+    #[tactic(auto, unfolding(crate::specs::Domains::tightened_upper))]
     fn tighten_upper_bound(self, bound: i32) -> Domain
         requires { Tight self × Within (VALUE + 2) bound }
         ensures { result ≡ tightened_upper self bound }
     {
-        let lower_bound = self.lower_bound;
-        let upper_bound = self.upper_bound;
-        let holes = self.holes;
-        let count = self.count;
-        if upper_bound.le(IntExt::Int(bound)) {
+        if self.upper_bound <= IntExt::Int(bound) {
             return self;
         }
-        let lowered = hole_list::last_up_to(holes, count, bound);
-        let to = hole_list::place(holes, count, lowered);
+        let holes = self.holes();
+        let lowered = hole_list::last_up_to(holes, bound);
+        let to = hole_list::place(holes, lowered);
         Domain {
-            lower_bound,
             upper_bound: IntExt::Int(lowered),
-            holes: hole_list::part(holes, 0, to),
+            holes: hole_list::padded(&holes[..to]),
             count: to,
+            ..self
         }
     }
 
@@ -96,30 +101,28 @@ impl Domain {
     fn is_consistent(self) -> bool
         ensures { result ≡ consistent self }
     {
-        let lower_bound = self.lower_bound;
-        let upper_bound = self.upper_bound;
-        lower_bound.le(upper_bound)
+        self.lower_bound <= self.upper_bound
     }
 
     // A lower bound that is the value moves up.
+    #[tactic(auto, unfolding(crate::specs::Domains::less_lower))]
     fn without_lower(self, value: i32) -> Domain
         requires { Tight self × Within (VALUE + 1) value }
         ensures { result ≡ less_lower self value }
     {
-        let lower_bound = self.lower_bound;
-        if lower_bound.eq(IntExt::Int(value)) {
+        if self.lower_bound == IntExt::Int(value) {
             return self.tighten_lower_bound(value + 1);
         }
         self
     }
 
     // An upper bound that is the value moves down.
+    #[tactic(auto, unfolding(crate::specs::Domains::less_upper))]
     fn without_upper(self, value: i32) -> Domain
         requires { Tight self × Within (VALUE + 1) value }
         ensures { result ≡ less_upper self value }
     {
-        let upper_bound = self.upper_bound;
-        if upper_bound.eq(IntExt::Int(value)) {
+        if self.upper_bound == IntExt::Int(value) {
             return self.tighten_upper_bound(value - 1);
         }
         self
@@ -129,68 +132,47 @@ impl Domain {
     fn is_between(self, value: i32) -> bool
         ensures { result ≡ between self value }
     {
-        let lower_bound = self.lower_bound;
-        let upper_bound = self.upper_bound;
-        if IntExt::Int(value).le(lower_bound) {
-            return false;
-        }
-        if upper_bound.le(IntExt::Int(value)) {
-            return false;
-        }
-        true
+        self.lower_bound < IntExt::Int(value) && IntExt::Int(value) < self.upper_bound
     }
 
     // A value strictly between the bounds becomes a hole.
+    #[tactic(auto, unfolding(crate::specs::Domains::hole_added))]
     fn with_hole(self, value: i32) -> Domain
         requires { Tight self × (crowded self value ≡ false) }
         ensures { result ≡ hole_added self value }
     {
-        if !self.is_between(value) {
-            return self;
-        }
-        let lower_bound = self.lower_bound;
-        let upper_bound = self.upper_bound;
-        let holes = self.holes;
-        let count = self.count;
-        if hole_list::contains(holes, count, value) {
+        let holes = self.holes();
+        if !self.is_between(value) || hole_list::contains(holes, value) {
             return self;
         }
         Domain {
-            lower_bound,
-            upper_bound,
-            holes: hole_list::insert(holes, count, value),
-            count: count + 1,
+            holes: hole_list::insert(holes, value),
+            count: self.count + 1,
+            ..self
         }
     }
 
     // Whether the value would be a hole too many.
+    #[tactic(auto, unfolding(crate::specs::Domains::crowded))]
     fn is_crowded(self, value: i32) -> bool
         requires { Tight self }
         ensures { result ≡ crowded self value }
     {
-        if !self.is_between(value) {
-            return false;
-        }
-        let holes = self.holes;
-        let count = self.count;
-        if hole_list::contains(holes, count, value) {
-            return false;
-        }
-        HOLES <= count
+        self.is_between(value) && !hole_list::contains(self.holes(), value) && HOLES <= self.count
     }
 
     // The domain after an atom, and whether a value is left in it.
+    #[tactic(auto, unfolding(crate::specs::Domains::settled))]
     fn settled(self) -> Reduced
         ensures { result ≡ settled self }
     {
-        if self.is_consistent() {
-            return Reduced {
-                effect: Effect::Narrowed,
-                domain: self,
-            };
-        }
+        let effect = if self.is_consistent() {
+            Effect::Narrowed
+        } else {
+            Effect::Emptied
+        };
         Reduced {
-            effect: Effect::Emptied,
+            effect,
             domain: self,
         }
     }
@@ -203,10 +185,10 @@ impl Domain {
         match comparison {
             Comparison::GreaterEqual => self.tighten_lower_bound(value).settled(),
             Comparison::LessEqual => self.tighten_upper_bound(value).settled(),
-            Comparison::Equal => {
-                let raised = self.tighten_lower_bound(value);
-                raised.tighten_upper_bound(value).settled()
-            }
+            Comparison::Equal => self
+                .tighten_lower_bound(value)
+                .tighten_upper_bound(value)
+                .settled(),
             Comparison::NotEqual => {
                 if self.is_crowded(value) {
                     return Reduced {
@@ -214,9 +196,10 @@ impl Domain {
                         domain: self,
                     };
                 }
-                let raised = self.without_lower(value);
-                let lowered = raised.without_upper(value);
-                lowered.with_hole(value).settled()
+                self.without_lower(value)
+                    .without_upper(value)
+                    .with_hole(value)
+                    .settled()
             }
         }
     }
@@ -226,81 +209,44 @@ impl Domain {
         requires { Tight self }
         ensures { result ≡ true_of self (kind_of comparison) value }
     {
-        let lower_bound = self.lower_bound;
-        let upper_bound = self.upper_bound;
-        let holes = self.holes;
-        let count = self.count;
         let bound = IntExt::Int(value);
         match comparison {
-            Comparison::GreaterEqual => bound.le(lower_bound),
-            Comparison::LessEqual => upper_bound.le(bound),
-            Comparison::Equal => {
-                if bound.le(lower_bound) {
-                    return upper_bound.le(bound);
-                }
-                false
-            }
+            Comparison::GreaterEqual => bound <= self.lower_bound,
+            Comparison::LessEqual => self.upper_bound <= bound,
+            Comparison::Equal => bound <= self.lower_bound && self.upper_bound <= bound,
             Comparison::NotEqual => {
-                if !lower_bound.le(bound) {
-                    return true;
-                }
-                if !bound.le(upper_bound) {
-                    return true;
-                }
-                hole_list::contains(holes, count, value)
+                bound < self.lower_bound
+                    || self.upper_bound < bound
+                    || hole_list::contains(self.holes(), value)
             }
         }
     }
 
     // Whether the domain is one that a call may be given.
-    pub(crate) fn is_accepted(self) -> bool
-        ensures { (result ≡ accepted_domain self) × (result ≡ true → length self.holes ≡ HOLES) }
+    #[tactic(auto, unfolding(crate::specs::Domains::accepted_domain))]
+    pub(crate) fn is_accepted(&self) -> bool
+        ensures { (result ≡ accepted_domain self.now) × (result ≡ true → length self.now.holes ≡ HOLES) }
     {
-        let lower_bound = self.lower_bound;
-        let upper_bound = self.upper_bound;
-        let holes = self.holes;
-        let count = self.count;
-        if !lower_bound.le(upper_bound) {
-            return false;
-        }
-        if IntExt::PositiveInf.le(lower_bound) {
-            return false;
-        }
-        if upper_bound.le(IntExt::NegativeInf) {
-            return false;
-        }
-        if HOLES < count {
-            return false;
-        }
-        if !ascend_between(holes, count, lower_bound, upper_bound) {
-            return false;
-        }
-        hole_list::rest_is_zero(holes, count)
+        self.lower_bound <= self.upper_bound
+            && self.lower_bound < IntExt::PositiveInf
+            && IntExt::NegativeInf < self.upper_bound
+            && self.count <= HOLES
+            && ascend_between(self.holes(), self.lower_bound, self.upper_bound)
+            && hole_list::rest_is_zero(&self.holes[self.count..])
     }
 }
 
 // Whether the holes ascend, strictly between the bounds.
-fn ascend_between(
-    holes: [i32; HOLES],
-    count: usize,
-    lower_bound: IntExt,
-    upper_bound: IntExt,
-) -> bool
-    requires { count ≤ HOLES }
-    ensures { result ≡ ascend lower_bound (take count holes) upper_bound }
+fn ascend_between(holes: &[i32], lower_bound: IntExt, upper_bound: IntExt) -> bool
+    ensures { result ≡ ascend lower_bound holes.now upper_bound }
 {
     let mut last = lower_bound;
-    let mut i = 0;
-    while i < count {
-        let hole = IntExt::Int(holes[i]);
-        if hole.le(last) {
-            return false;
-        }
-        if upper_bound.le(hole) {
+    for hole in holes {
+        let hole = IntExt::Int(*hole);
+        if hole <= last || upper_bound <= hole {
             return false;
         }
         last = hole;
-        i += 1;
     }
     true
 }

@@ -5,7 +5,7 @@ ghost use Rattle.integers.specs.WholeNumbers.{Within};
 ghost use Rattle.checking.specs.Atoms.{atom_of};
 ghost use Rattle.checking.specs.Answers.{numbers_of_truth, numbers_of_bound, AppliedAs};
 ghost use Rattle.checking.specs.Promises.{EmptyMeans, ApplyMeans, TruthMeans, LowerMeans, UpperMeans, PrepareMeans};
-ghost use Rattle.checking.specs.States.{empty_state, accepted, stepped, applied_to, truth_of, bound_of, Applicable, prepared, AllProper, AcceptedState};
+ghost use Rattle.checking.specs.States.{empty_state, accepted, stepped, applied_to, truth_of, bound_of, Applicable, prepared, AcceptedState};
 ghost use Rattle.checking.specs.States.{lower_of, upper_of, side_of};
 
 use crate::atomic_constraint::{
@@ -15,7 +15,7 @@ use crate::domain::{Domain, Effect};
 use crate::int_ext::IntExt;
 use integers::limits::{PREMISES, VARIABLES};
 use integers::numbers::nat_of;
-use integers::refused;
+use integers::refused::Refusal;
 
 // The domains of the variables, by number. An unmentioned variable may be any integer.
 #[derive(Clone, Copy)]
@@ -28,7 +28,7 @@ pub struct VariableState {
 pub enum Application {
     Consistent,
     Contradiction(usize),
-    Refused(u32),
+    Refused(Refusal),
 }
 
 // The answer, and the state after it.
@@ -38,21 +38,6 @@ pub struct Applied {
     pub state: VariableState,
 }
 
-// Whether every admitted value meets an atom.
-#[derive(Clone, Copy)]
-pub enum Truth {
-    True,
-    False,
-    Refused(u32),
-}
-
-// A variable's bound.
-#[derive(Clone, Copy)]
-pub enum Bound {
-    At(IntExt),
-    Refused(u32),
-}
-
 // Which of the two bounds.
 #[derive(Clone, Copy)]
 pub enum Side {
@@ -60,24 +45,23 @@ pub enum Side {
     Upper,
 }
 
-impl VariableState {
-    // The empty state, in which every variable may be any integer: the source's `Default`.
-    pub fn default() -> VariableState
-        ensures equals { result ≡ empty_state }
-        ensures means { EmptyMeans result }
-    {
-        let domain = Domain::all_integers();
+// The empty state, in which every variable may be any integer.
+impl Default for VariableState {
+    ghost is_default = { λ s. (s ≡ empty_state) × EmptyMeans s };
+
+    fn default() -> VariableState {
         VariableState {
-            domains: [domain; VARIABLES],
+            domains: [Domain::all_integers(); VARIABLES],
         }
     }
+}
 
+impl VariableState {
     // Whether the state is one that a call may be given.
-    fn is_accepted(self) -> bool
-        ensures { (result ≡ accepted self.domains) × (result ≡ true → AcceptedState self) }
+    fn is_accepted(&self) -> bool
+        ensures { (result ≡ accepted self.now.domains) × (result ≡ true → AcceptedState self.now) }
     {
-        let domains = self.domains;
-        domains_are_accepted(domains)
+        self.domains.iter().all(|domain| domain.is_accepted())
     }
 
     // Apply one atom.
@@ -86,28 +70,18 @@ impl VariableState {
         ensures { result ≡ stepped self (atom_of atom) }
     {
         let x = atom.identifier;
-        let comparison = atom.comparison;
-        let value = atom.value;
-        let domain = self.domains[x];
-        let reduced = domain.apply(comparison, value);
-        let effect = reduced.effect;
-        match effect {
+        let reduced = self.domains[x].apply(atom.comparison, atom.value);
+        let answer = match reduced.effect {
             Effect::Narrowed => {
-                let narrowed = reduced.domain;
-                self.domains[x] = narrowed;
-                Applied {
-                    answer: Application::Consistent,
-                    state: self,
-                }
+                self.domains[x] = reduced.domain;
+                Application::Consistent
             }
-            Effect::Emptied => Applied {
-                answer: Application::Contradiction(x),
-                state: self,
-            },
-            Effect::Full => Applied {
-                answer: Application::Refused(refused::HOLES),
-                state: self,
-            },
+            Effect::Emptied => Application::Contradiction(x),
+            Effect::Full => Application::Refused(Refusal::Holes),
+        };
+        Applied {
+            answer,
+            state: self,
         }
     }
 
@@ -118,13 +92,13 @@ impl VariableState {
     {
         if !self.is_accepted() {
             return Applied {
-                answer: Application::Refused(refused::STATE),
+                answer: Application::Refused(Refusal::State),
                 state: self,
             };
         }
         if !atom_is_accepted(variable, kind, value) {
             return Applied {
-                answer: Application::Refused(refused::ATOMS),
+                answer: Application::Refused(Refusal::Atoms),
                 state: self,
             };
         }
@@ -132,48 +106,40 @@ impl VariableState {
     }
 
     // Whether the atom (variable, kind, value) is true of every admitted value.
-    pub fn is_true(self, variable: i32, kind: i32, value: i32) -> Truth
+    pub fn is_true(self, variable: i32, kind: i32, value: i32) -> Result<bool, Refusal>
         ensures equals { numbers_of_truth result ≡ numbers_of_truth (truth_of self variable kind value) }
         ensures means { TruthMeans self variable kind value result }
     {
         if !self.is_accepted() {
-            return Truth::Refused(refused::STATE);
+            return Err(Refusal::State);
         }
         if !atom_is_accepted(variable, kind, value) {
-            return Truth::Refused(refused::ATOMS);
+            return Err(Refusal::Atoms);
         }
         let atom = AtomicConstraint::new(variable, kind, value);
-        let x = atom.identifier;
-        let comparison = atom.comparison;
-        let domain = self.domains[x];
-        if domain.is_true(comparison, value) {
-            return Truth::True;
-        }
-        Truth::False
+        Ok(self.domains[atom.identifier].is_true(atom.comparison, value))
     }
 
     // The bound of a variable on one side.
-    pub fn bound(self, side: Side, variable: i32) -> Bound
+    #[tactic(auto, unfolding(crate::specs::States::bound_of))]
+    pub fn bound(self, side: Side, variable: i32) -> Result<IntExt, Refusal>
         ensures { (result ≡ bound_of (side_of side) self variable) × (accepted self.domains ≡ true → AcceptedState self) }
     {
         if !self.is_accepted() {
-            return Bound::Refused(refused::STATE);
+            return Err(Refusal::State);
         }
         if !variable_is_accepted(variable) {
-            return Bound::Refused(refused::ATOMS);
+            return Err(Refusal::Atoms);
         }
-        let x = nat_of(variable) as usize;
-        let domain = self.domains[x];
-        let lower_bound = domain.lower_bound;
-        let upper_bound = domain.upper_bound;
-        match side {
-            Side::Lower => Bound::At(lower_bound),
-            Side::Upper => Bound::At(upper_bound),
-        }
+        let domain = self.domains[nat_of(variable) as usize];
+        Ok(match side {
+            Side::Lower => domain.lower_bound,
+            Side::Upper => domain.upper_bound,
+        })
     }
 
     // The least value of a variable, or minus infinity.
-    pub fn lower_bound(self, variable: i32) -> Bound
+    pub fn lower_bound(self, variable: i32) -> Result<IntExt, Refusal>
         ensures equals { numbers_of_bound result ≡ numbers_of_bound (bound_of lower_of self variable) }
         ensures means { LowerMeans self variable result }
     {
@@ -181,7 +147,7 @@ impl VariableState {
     }
 
     // The greatest value of a variable, or plus infinity.
-    pub fn upper_bound(self, variable: i32) -> Bound
+    pub fn upper_bound(self, variable: i32) -> Result<IntExt, Refusal>
         ensures equals { numbers_of_bound result ≡ numbers_of_bound (bound_of upper_of self variable) }
         ensures means { UpperMeans self variable result }
     {
@@ -195,22 +161,13 @@ impl VariableState {
         ensures { result ≡ prepared premises.now consequent.now }
     {
         let words = premises.len() + consequent.len();
-        let domain = Domain::all_integers();
-        let mut domains = [domain; VARIABLES];
-        let mut i = 0;
-        while i < words {
-            let atom = given_at(premises, consequent, i);
+        let mut domains = [Domain::all_integers(); VARIABLES];
+        for k in 0..words / 3 {
+            let atom = given_at(premises, consequent, 3 * k);
             let x = atom.identifier;
-            let comparison = atom.comparison;
-            let value = atom.value;
-            let domain = domains[x];
-            let reduced = domain.apply(comparison, value);
-            let effect = reduced.effect;
-            match effect {
-                Effect::Narrowed => {
-                    let narrowed = reduced.domain;
-                    domains[x] = narrowed;
-                }
+            let reduced = domains[x].apply(atom.comparison, atom.value);
+            match reduced.effect {
+                Effect::Narrowed => domains[x] = reduced.domain,
                 Effect::Emptied => {
                     return Applied {
                         answer: Application::Contradiction(x),
@@ -219,12 +176,11 @@ impl VariableState {
                 }
                 Effect::Full => {
                     return Applied {
-                        answer: Application::Refused(refused::HOLES),
+                        answer: Application::Refused(Refusal::Holes),
                         state: VariableState::default(),
                     };
                 }
             }
-            i += 3;
         }
         Applied {
             answer: Application::Consistent,
@@ -240,31 +196,16 @@ impl VariableState {
     {
         if 3 * PREMISES + 2 < premises.len() {
             return Applied {
-                answer: Application::Refused(refused::PREMISES),
+                answer: Application::Refused(Refusal::Premises),
                 state: VariableState::default(),
             };
         }
         if !lists_are_accepted(premises, consequent) {
             return Applied {
-                answer: Application::Refused(refused::ATOMS),
+                answer: Application::Refused(Refusal::Atoms),
                 state: VariableState::default(),
             };
         }
         VariableState::apply_all(premises, consequent)
     }
-}
-
-// Whether every domain is accepted.
-fn domains_are_accepted(domains: [Domain; VARIABLES]) -> bool
-    ensures { (result ≡ accepted domains) × (result ≡ true → AllProper domains) }
-{
-    let mut i = 0;
-    while i < VARIABLES {
-        let domain = domains[i];
-        if !domain.is_accepted() {
-            return false;
-        }
-        i += 1;
-    }
-    true
 }

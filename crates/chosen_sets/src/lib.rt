@@ -1,27 +1,24 @@
 // The ect of a set of tasks, by the textbook's recurrence over the tasks by earliest start.
 #![tactic(auto)]
 
-ghost use Rattle.std.specs.Prelude.{◌≡◌, true, ◌+◌, ◌≤◌, max};
+ghost use Rattle.std.specs.Prelude.{◌≡◌, ◌+◌, ◌≤◌};
 ghost use Rattle.integers.specs.Limits.{U32MAX};
 ghost use Rattle.scheduling.specs.Scheduling.{natural, Tasks, TaskSet};
 ghost use Rattle.scheduling.specs.Ects.{ect_of};
-ghost use Rattle.trees.specs.Ects.{moment_of};
+ghost use Rattle.trees.specs.Ects.{moment_of, raised_to};
 ghost use Rattle.chosen_sets.specs.TaskArrays.{HeldSet, completed};
 
 use integers::limits::TASKS;
-use integers::numbers::max;
 use sorts::sort_numbers;
-use trees::ect::Ect;
+use trees::ect::raised;
 
-// The ect with one task more, where it is chosen. 0 is that of no task, since a task lasts 1 or more.
-fn completed(ect: u32, chosen: bool, est: u32, p: u32) -> u32
-    requires { chosen ≡ true → max ect est + p ≤ U32MAX }
-    ensures { result ≡ completed ect chosen est p }
+// The ect with one task more, where it is chosen. What it would be is calculated in any case, so that no branch depends on the choice.
+fn completed(ect: Option<u32>, chosen: bool, est: u32, p: u32) -> Option<u32>
+    requires { raised_to est (moment_of ect) + p ≤ U32MAX }
+    ensures { moment_of result ≡ completed (moment_of ect) chosen est p }
 {
-    if !chosen {
-        return ect;
-    }
-    max(ect, est) + p
+    let with_it = raised(ect, est) + p;
+    if chosen { Some(with_it) } else { ect }
 }
 
 // The ect of the chosen ones of n tasks, or that none is chosen.
@@ -30,19 +27,16 @@ pub fn theta_ect<'a>(
     est: &'a [u32; TASKS],
     durations: &'a [u32; TASKS],
     n: usize,
-) -> Ect
+) -> Option<u32>
     requires { (J : Tasks natural) × (Ω : TaskSet) × HeldSet J Ω n chosen.now est.now durations.now }
     ensures { (J : Tasks natural) (Ω : TaskSet) → HeldSet J Ω n chosen.now est.now durations.now
         → moment_of result ≡ ect_of J Ω }
 {
-    let mut order: [usize; TASKS] = [0; TASKS];
+    let mut order = [0; TASKS];
     sort_numbers(&mut order, n, est);
-    let mut ect: u32 = 0;
-    let mut x = 0;
-    while x < n {
-        let i = order[x];
+    let mut ect = None;
+    for &i in &order[..n] {
         ect = completed(ect, chosen[i], est[i], durations[i]);
-        x += 1;
     }
-    Ect::decoded(ect)
+    ect
 }

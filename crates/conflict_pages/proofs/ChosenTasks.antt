@@ -2,7 +2,7 @@
 use mathlib.Core.Path.{◌≡◌, refl, sym, ap, ◌∙◌}
 use mathlib.Core.Bool.{Bool, true, false, ◌&&◌, ◌||◌}
 use mathlib.Core.Logic.{inl, inr}
-use mathlib.Core.List.{List, [], ◌∷◌, ◌++◌, flat_map}
+use mathlib.Core.List.{List, [], ◌∷◌, ◌++◌, flat_map, append-nil}
 use Prim.Native.Nat.{ℕ, zero, suc, ◌+◌, ◌<◌}
 use native.Mathlib.Numerals.{add-one}
 use native.Mathlib.Nat.{add-zero, zero-add}
@@ -17,7 +17,6 @@ use Rattle.integers.proofs.StableSort.{sorted_at}
 use Rattle.text.specs.DecimalText.{Puts}
 use Rattle.text.proofs.PutBytes.{puts_append}
 use Rattle.pages.proofs.PageLines.{flat_append, flat_one}
-use Rattle.conflict_pages.specs.Lines.{line_if}
 
 -- a test goes into a sum of tests, or takes the first of them out
 spread : (a b c : Bool) → (a ≡ true → c ≡ true) → a || (b && c) ≡ (a || b) && c
@@ -59,14 +58,17 @@ module _ (q : ℕ → Bool) where
     unfolding flat_map picked numbers
     puts_none out at = record { text = refl; end = omega arith }
 
-    -- its line, or none
-    one : (k : ℕ) → flat_map f (picked q (k ∷ [])) ≡ line_if (q k) (f k)
-    unfolding picked flat_map
-    one k = elim (bool (q k)) [ inl y ↦ rw (pick_yes k [] y, y, flat_one f k) | inr y ↦ rw (pick_no k [] y, y) ]
-
-    pub puts_next : {first second third : List ℕ} {from at next : ℕ} (k : ℕ) → Puts first second from (flat_map f (picked q (numbers 0 k))) at → Puts second third at (line_if (q k) (f k)) next
+    -- its line
+    pub puts_next : {first second third : List ℕ} {from at next : ℕ} (k : ℕ) → q k ≡ true → Puts first second from (flat_map f (picked q (numbers 0 k))) at → Puts second third at (f k) next
         → Puts first third from (flat_map f (picked q (numbers 0 (k + 1)))) next
-    puts_next k p s = rw (more k, flat_append f (picked q (numbers 0 k)) (picked q (k ∷ [])), one k) (puts_append p s)
+    unfolding flat_map picked
+    puts_next k y p s = rw (more k, flat_append f (picked q (numbers 0 k)) (picked q (k ∷ [])), pick_yes k [] y, flat_one f k) (puts_append p s)
+
+    -- or none
+    pub puts_same : {first second : List ℕ} {from at : ℕ} (k : ℕ) → q k ≡ false → Puts first second from (flat_map f (picked q (numbers 0 k))) at
+        → Puts first second from (flat_map f (picked q (numbers 0 (k + 1)))) at
+    unfolding picked
+    puts_same k y p = rw (more k, pick_no k [] y, append-nil) p
 
   -- ---- which they are
   pick_has : (l : List ℕ) (k : ℕ) → has (picked q l) k ≡ has l k && q k

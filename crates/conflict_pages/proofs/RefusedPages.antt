@@ -4,11 +4,16 @@ use mathlib.Core.Bool.{Bool, true}
 use mathlib.Core.Logic.{◌↔◌, inl, inr}
 use mathlib.Core.List.{List, [], ◌∷◌}
 use Prim.Native.Nat.{ℕ, ◌+◌, ◌*◌, ◌≤◌, ◌<◌}
+use native.Mathlib.Omega.{arith}
 use native.Mathlib.Decide.{ℕ_discrete}
 use lib.Dec.{leb}
 use lib.IntN.{ℤ}
 use lib.ListN.{length}
 use borrow.Author.Tests.{leb-true, le-leb, lt-leb}
+use Rattle.integers.specs.declared.refused.Refusal.{Refusal}
+use Rattle.integers.specs.Answers.{Answer, refused_by}
+use Rattle.integers.specs.Refused.{number_of}
+use Rattle.integers.proofs.Answers.{same_kind}
 use Rattle.integers.specs.Limits.{TASKS}
 use Rattle.integers.specs.Tests.{Test, test}
 use Rattle.integers.proofs.Tests.{accepts, refuses, refusal_after, refusal_before, more_refused}
@@ -23,16 +28,16 @@ use Rattle.conflicts.specs.declared.answer.Found.{Found}
 use Rattle.conflicts.specs.declared.answer.Found.TheVariants.{NothingFound, Overload, Late, Refused}
 use Rattle.conflicts.specs.declared.answer.Conflict.{Conflict}
 use Rattle.conflicts.proofs.FoundConflicts.{apart}
+use Rattle.conflicts.specs.Numbers.{found_numbers}
 use Rattle.conflicts.specs.Conflicts.{ConflictFound}
 use Rattle.conflict_pages.specs.Lines.{LINE}
 use Rattle.conflict_pages.specs.Pages.{conflict_page_number}
-use Rattle.conflict_pages.specs.Sayable.{number_of}
 
 -- ---- the call's number
 module _ (r : DisjunctivePropagator) (es ls : List ℤ) (bars : Bool) (c : Conflict) (x : ConflictFound r es ls bars c) where
   -- where no test fails, some answer is found: an overload, a late task, or nothing
-  pub not_refused : input_number r es ls bars ≡ 0 → (m : ℕ) → c.found ≡ Refused m → ⊥
-  not_refused z m e = apart e (ap (λ (d : Conflict). d.found) ((x.nothing z).1 none)) refl
+  pub not_refused : input_number r es ls bars ≡ 0 → (why : Refusal) → c.found ≡ Refused why → ⊥
+  not_refused z why e = apart e (ap (λ (d : Conflict). d.found) ((x.nothing z).1 none)) refl
     where
       overloads : (Ω : TaskSet) → Overloads (tasks_in r es ls) Ω → ⊥
       overloads Ω o = apart e ((x.overload z).1 (Ω, o)) refl
@@ -41,17 +46,18 @@ module _ (r : DisjunctivePropagator) (es ls : List ℤ) (bars : Bool) (c : Confl
       none (inl (Ω, o)) = overloads Ω o
       none (inr (i, b, edge, passes)) = let (j, y, d, late) = (x.late z).1 (overloads, (i, b, edge, passes)) in apart e late refl
 
-  pub number_is : number_of c.found ≡ input_number r es ls bars
-  number_is = elim (ℕ_discrete (input_number r es ls bars) 0) [
-    | yes z ↦ by z c.found refl ∙ sym z
-    | no z ↦ ap (λ (d : Conflict). number_of d.found) (x.refused z)
-  ]
+  pub refused_number : (why : Refusal) → c.found ≡ Refused why → number_of why ≡ input_number r es ls bars
+  refused_number why e = ap (λ (a : Answer). a.number) (sym (ap found_numbers e) ∙ (x.refused (λ z. not_refused z why e)).answer)
+
+  -- where none is found to refuse it, no test fails
+  pub accepted : ((why : Refusal) → c.found ≡ Refused why → ⊥) → input_number r es ls bars ≡ 0
+  accepted none = elim (ℕ_discrete (input_number r es ls bars) 0) [ yes z ↦ z | no z ↦ absurd (by c.found refl (x.refused z).answer) ]
     where
-      by : input_number r es ls bars ≡ 0 → (f : Found) → c.found ≡ f → number_of f ≡ 0
-      by z NothingFound e = refl
-      by z Overload e = refl
-      by z (Late i l b) e = refl
-      by z (Refused m) e = absurd (not_refused z m e)
+      by : (f : Found) → c.found ≡ f → found_numbers f ≡ refused_by (input_number r es ls bars) → ⊥
+      by NothingFound e a = omega (arith, same_kind a)
+      by Overload e a = omega (arith, same_kind a)
+      by (Late i l b) e a = omega (arith, same_kind a)
+      by (Refused why) e a = none why e
 
 -- ---- and then the room
 module _ (r : DisjunctivePropagator) (es ls : List ℤ) (bars : Bool) (bytes : ℕ) where

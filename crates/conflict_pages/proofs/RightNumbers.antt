@@ -91,4 +91,4 @@ module _ (r : DisjunctivePropagator) (es ls : List ℤ) (a : AcceptedInput r es 
         by NothingFound e = tt
         by Overload e = overload_sayable (x.overloads e)
         by (Late i z b) e = late_sayable i z b (x.is_late i z b e)
-        by (Refused m) e = tt
+        by (Refused why) e = tt

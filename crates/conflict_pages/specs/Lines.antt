@@ -1,5 +1,5 @@
 -- The bytes of a line of a conflict's page, and of its heading.
-use Rattle.std.specs.Prelude.{Bool, true, false, List, [], ◌++◌, ℕ, ℤ, pos}
+use Rattle.std.specs.Prelude.{Bool, true, false, List, ◌++◌, ℕ, ℤ, pos}
 use Rattle.integers.specs.Texts.{bytes_of}
 use Rattle.text.specs.DecimalText.{decimal}
 use Rattle.pages.specs.Lines.{pad_left}
@@ -24,8 +24,3 @@ heading = bytes_of "  NR        FROM       UNTIL       TAKES  \n"
 -- the line of a task by its number, its earliest start, its latest completion and its duration
 abbrev pub line_of : ℕ → ℤ → ℤ → ℕ → Bool → List ℕ
 line_of task from until takes marked = columns (decimal (pos task)) (decimal from) (decimal until) (decimal (pos takes)) ++ line_end marked
-
--- the line of a task that is chosen
-abbrev pub line_if : Bool → List ℕ → List ℕ
-line_if true line = line
-line_if false line = []

@@ -1,5 +1,6 @@
 -- A conflict's page: what refuses it, its bytes, and what the call leaves.
-use Rattle.std.specs.Prelude.{◌≡◌, Bool, true, List, [], ◌∷◌, ◌++◌, ℕ, ◌+◌, ◌*◌, ◌<◌, leb, ℤ, pos, length, get_or, take, drop}
+use Rattle.std.specs.Prelude.{◌≡◌, Bool, true, Option, Result, List, [], ◌∷◌, ◌++◌, ℕ, ◌+◌, ◌*◌, ◌<◌, leb, ℤ, pos, length, get_or, take, drop}
+use Rattle.integers.specs.declared.refused.Refusal.{Refusal}
 use Rattle.integers.specs.Refused as refused
 use Rattle.integers.specs.Answers.{Answer, answered, refused_by}
 use Rattle.integers.specs.Words.{overwritten}
@@ -12,7 +13,6 @@ use Rattle.conflicts.specs.declared.answer.Conflict.{Conflict}
 use Rattle.conflicts.specs.Answers.{flagged}
 use Rattle.conflicts.specs.ConflictOf.{conflict_of}
 use Rattle.conflicts.specs.Conflicts.{ConflictFound}
-use Rattle.conflict_pages.specs.declared.answer.ConflictPage.{ConflictPage}
 use Rattle.conflict_pages.specs.Numbers.{numbers_of_conflict_page}
 use Rattle.conflict_pages.specs.Lines.{LINE, heading}
 use Rattle.conflict_pages.specs.TaskLines.{tasks_of, line_at, task_lines}
@@ -34,7 +34,7 @@ abbrev pub sentences_of : Conflict → Found → List ℕ
 sentences_of c NothingFound = []
 sentences_of c Overload = overload_sentences c.set.est c.set.p c.lct c.excess
 sentences_of c (Late task latest bound) = comes_after task c.set.est c.set.p c.lct ++ starts_after task c.before.est c.before.p latest
-sentences_of c (Refused number) = []
+sentences_of c (Refused why) = []
 
 module _ (r : DisjunctivePropagator) (es ls : List ℤ) (c : Conflict) where
   -- the heading, the lines of the set's tasks, those of `before` with a mark, and the sentences
@@ -56,18 +56,18 @@ conflict_page_of r es ls = page_of r es ls (conflict_of r es ls)
 -- What the call leaves -----------------------------------------------------------------------------------------------------------
 
 -- Nothing is written, and the buffer is unchanged.
-pub record PageKept (a : Answer) (bytes : List ℕ) (p : ConflictPage) (bytes' : List ℕ) : Type 0 where
+pub record PageKept (a : Answer) (bytes : List ℕ) (p : Result (Option ℕ) Refusal) (bytes' : List ℕ) : Type 0 where
   pub answer : numbers_of_conflict_page p ≡ a
   pub keeps : bytes' ≡ bytes
 
 -- The page stands at the front of the buffer, and the bytes after it are unchanged.
-pub record PageLeft (page bytes : List ℕ) (p : ConflictPage) (bytes' : List ℕ) : Type 0 where
+pub record PageLeft (page bytes : List ℕ) (p : Result (Option ℕ) Refusal) (bytes' : List ℕ) : Type 0 where
   pub answer : numbers_of_conflict_page p ≡ answered 0 (pos (length page) ∷ [])
   pub text : bytes' ≡ overwritten bytes page
 
 -- A conflict's page, on ranges whose bars fit if `bars`: the first test that fails refuses it. Else the conflict is the call's: where nothing is found, nothing
 -- is written; where one is found, its page is.
-pub record ConflictPaged (r : DisjunctivePropagator) (es ls : List ℤ) (bars : Bool) (bytes : List ℕ) (p : ConflictPage) (bytes' : List ℕ) : Type 0 where
+pub record ConflictPaged (r : DisjunctivePropagator) (es ls : List ℤ) (bars : Bool) (bytes : List ℕ) (p : Result (Option ℕ) Refusal) (bytes' : List ℕ) : Type 0 where
   pub refused : (conflict_page_number r es ls bars (length bytes) ≡ 0 → ⊥)
       → PageKept (refused_by (conflict_page_number r es ls bars (length bytes))) bytes p bytes'
   pub right : conflict_page_number r es ls bars (length bytes) ≡ 0 → ConflictFound r es ls bars (conflict_of r es ls)

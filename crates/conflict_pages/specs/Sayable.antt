@@ -1,5 +1,5 @@
 -- What the functions that write a page take for given: no contract of an open call names these.
-use Rattle.std.specs.Prelude.{◌≡◌, Bool, true, false, List, ℕ, ◌+◌, ◌*◌, ◌≤◌, ◌<◌, ℤ, pos, ◌+ℤ◌, length, get_or}
+use Rattle.std.specs.Prelude.{◌≡◌, List, ℕ, ◌+◌, ◌*◌, ◌≤◌, ◌<◌, ℤ, pos, ◌+ℤ◌, length, get_or}
 use Rattle.integers.specs.Limits.{TASKS, DURATIONS}
 use Rattle.records.specs.declared.record.DisjunctivePropagator.{DisjunctivePropagator}
 use Rattle.records.specs.Refusals.{StartFits, AcceptedInput}
@@ -37,24 +37,10 @@ abbrev pub Sayable : Conflict → Found → Type 0
 Sayable c NothingFound = Unit {0}
 Sayable c Overload = OverloadSayable c.set.est c.set.p c.lct c.excess
 Sayable c (Late task latest bound) = SumSayable task c.set.est c.set.p c.lct × SumSayable task c.before.est c.before.p latest
-Sayable c (Refused number) = Unit {0}
+Sayable c (Refused why) = Unit {0}
 
 -- A conflict of an accepted input, and room for its page.
 pub record Pageable (r : DisjunctivePropagator) (es ls : List ℤ) (c : Conflict) (room : ℕ) : Type 0 where
   pub input : AcceptedInput r es ls
   pub sayable : Sayable c c.found
   pub space : LINE * (r.count + 5) ≤ room
-
--- the number that refused the call, or 0
-abbrev pub number_of : Found → ℕ
-number_of NothingFound = 0
-number_of Overload = 0
-number_of (Late task latest bound) = 0
-number_of (Refused number) = number
-
--- whether there is a conflict to write of
-abbrev pub shows : Found → Bool
-shows NothingFound = false
-shows Overload = true
-shows (Late task latest bound) = true
-shows (Refused number) = false

@@ -1,7 +1,6 @@
 // The page of a conflict: its text, with a line for each of its tasks and two sentences that add them up.
 #![tactic(auto)]
 
-pub mod answer;
 mod lines;
 pub mod page;
 mod sentences;

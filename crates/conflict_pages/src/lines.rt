@@ -1,9 +1,10 @@
-// The heading of a conflict's page, and the lines of its tasks.
+// The heading of a conflict's page, and the lines of its tasks. As in `text`, each function puts its bytes at a place of the caller's buffer and answers the place
+// after them: nothing allocates, and with the room that is required no write can fail.
 ghost use Rattle.std.specs.Prelude.{◌≡◌, ◌++◌, ◌+◌, ◌*◌, ◌≤◌, ◌<◌, pos, ◌+ℤ◌, length};
 ghost use Rattle.integers.specs.Limits.{TASKS, DURATIONS};
 ghost use Rattle.records.specs.Refusals.{StartFits};
 ghost use Rattle.text.specs.DecimalText.{Puts};
-ghost use Rattle.conflict_pages.specs.Lines.{LINE, line_of, line_if, heading};
+ghost use Rattle.conflict_pages.specs.Lines.{LINE, line_of, heading};
 ghost use Rattle.conflict_pages.specs.TaskLines.{task_lines};
 ghost use Rattle.conflict_pages.specs.Sayable.{Linable};
 
@@ -37,28 +38,6 @@ fn put_line(
     put_bytes(out, d, b"  \n")
 }
 
-// The line of a task that is chosen; nothing where it is not.
-fn put_chosen(
-    out: &mut [u8],
-    at: usize,
-    chosen: bool,
-    task: usize,
-    earliest: i32,
-    latest: i32,
-    duration: u32,
-    marked: bool,
-) -> usize
-    requires { (at + LINE ≤ length out.old) × (task < TASKS) × StartFits earliest × StartFits latest × (duration ≤ DURATIONS) }
-    ensures text { Puts out.old out.new at
-        (line_if chosen (line_of task earliest (latest +ℤ pos duration) duration marked)) result }
-    ensures within { result ≤ at + LINE }
-{
-    if chosen {
-        return put_line(out, at, task, earliest, latest, duration, marked);
-    }
-    at
-}
-
 // The heading, and after it the lines of the tasks that are chosen, by number; those that are marked have a mark.
 pub(crate) fn put_lines(
     out: &mut [u8],
@@ -74,19 +53,11 @@ pub(crate) fn put_lines(
     ensures within { result ≤ LINE * (length earliest.now + 1) }
 {
     let mut at = put_bytes(out, 0, b"  NR        FROM       UNTIL       TAKES  \n");
-    let mut k = 0;
-    while k < earliest.len() {
-        at = put_chosen(
-            out,
-            at,
-            chosen[k],
-            k,
-            earliest[k],
-            latest[k],
-            durations[k],
-            marked[k],
-        );
-        k += 1;
+    for k in 0..earliest.len() {
+        let shown = chosen[k];
+        if shown {
+            at = put_line(out, at, k, earliest[k], latest[k], durations[k], marked[k]);
+        }
     }
     at
 }

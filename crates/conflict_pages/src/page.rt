@@ -1,15 +1,14 @@
-// The page: refused by number with nothing changed, nothing to write of, or written.
-ghost use Rattle.std.specs.Prelude.{◌≡◌, ◌≤◌, length};
+// The page: refused with nothing changed, nothing to write of, or written.
+ghost use Rattle.std.specs.Prelude.{◌≤◌, length};
 ghost use Rattle.text.specs.DecimalText.{Puts};
-ghost use Rattle.conflict_pages.specs.Sayable.{Pageable, number_of, shows};
+ghost use Rattle.conflict_pages.specs.Sayable.{Pageable};
 ghost use Rattle.conflict_pages.specs.Pages.{page_of, ConflictPaged};
 
-use crate::answer::ConflictPage;
 use crate::lines::put_lines;
 use crate::sentences::{put_overload, put_sum};
 use conflicts::answer::{Conflict, Found};
 use conflicts::conflict::conflict;
-use integers::refused;
+use integers::refused::Refusal;
 use records::record::DisjunctivePropagator;
 
 // The bytes of a line, its line feed among them.
@@ -18,40 +17,16 @@ const LINE: usize = 43;
 // The lines of a page beside those of its tasks: the heading, and room for two sentences.
 const BESIDE: usize = 5;
 
-// The number that refused the call, or 0.
-fn number_of(found: Found) -> u32
-    ensures { result ≡ number_of found }
-{
-    match found {
-        Found::NothingFound => 0,
-        Found::Overload => 0,
-        Found::Late { .. } => 0,
-        Found::Refused(number) => number,
-    }
-}
-
-// Whether there is a conflict to write of.
-fn shows(found: Found) -> bool
-    ensures { result ≡ shows found }
-{
-    match found {
-        Found::NothingFound => false,
-        Found::Overload => true,
-        Found::Late { .. } => true,
-        Found::Refused(_) => false,
-    }
-}
-
 // The heading, the lines and the sentences of a conflict.
 fn put_page(
-    record: DisjunctivePropagator,
+    record: &DisjunctivePropagator,
     earliest: &[i32],
     latest: &[i32],
-    conflict: Conflict,
+    conflict: &Conflict,
     out: &mut [u8],
 ) -> usize
-    requires { Pageable «record» earliest.now latest.now conflict (length out.old) }
-    ensures text { Puts out.old out.new 0 (page_of «record» earliest.now latest.now conflict) result }
+    requires { Pageable «record».now earliest.now latest.now conflict.now (length out.old) }
+    ensures text { Puts out.old out.new 0 (page_of «record».now earliest.now latest.now conflict.now) result }
     ensures within { result ≤ length out.old }
 {
     let set = conflict.set;
@@ -64,8 +39,7 @@ fn put_page(
         latest,
         &record.durations,
     );
-    let found = conflict.found;
-    match found {
+    match conflict.found {
         Found::NothingFound => at,
         Found::Overload => put_overload(out, at, set.est, set.p, conflict.lct, conflict.excess),
         Found::Late {
@@ -96,28 +70,26 @@ fn put_page(
     }
 }
 
-// The page of the conflict of these tasks in these ranges, whose bars fit if `bars_fit`, written at the front of the buffer.
+// The page of the conflict of these tasks in these ranges, whose bars fit if `bars_fit`, written at the front of the buffer: how many bytes it has, none where
+// no conflict is found, or why the page is refused.
 pub fn conflict_page(
     record: DisjunctivePropagator,
     earliest: &[i32],
     latest: &[i32],
     bars_fit: bool,
     out: &mut [u8],
-) -> ConflictPage
+) -> Result<Option<usize>, Refusal>
     ensures { ConflictPaged «record» earliest.now latest.now bars_fit out.old result out.new }
 {
     let conflict = conflict(record, earliest, latest, bars_fit);
-    let found = conflict.found;
-    let number = number_of(found);
-    if number != 0 {
-        return ConflictPage::Refused(number);
+    if let Found::Refused(why) = conflict.found {
+        return Err(why);
     }
     if out.len() < LINE * (record.count + BESIDE) {
-        return ConflictPage::Refused(refused::PAGE_ROOM);
+        return Err(Refusal::PageRoom);
     }
-    if !shows(found) {
-        return ConflictPage::NothingFound;
+    if let Found::NothingFound = conflict.found {
+        return Ok(None);
     }
-    let written = put_page(record, earliest, latest, conflict, out);
-    ConflictPage::Written(written)
+    Ok(Some(put_page(&record, earliest, latest, &conflict, out)))
 }

@@ -1,4 +1,4 @@
-// The two sentences of a conflict's page.
+// The two sentences of a conflict's page. They too are put at a place of the caller's buffer, and the place after them is answered.
 ghost use Rattle.std.specs.Prelude.{◌+◌, ◌≤◌, length};
 ghost use Rattle.text.specs.DecimalText.{decimal, Puts};
 ghost use Rattle.conflict_pages.specs.Sentences.{phrase, overload_sentences, sum_sentence};

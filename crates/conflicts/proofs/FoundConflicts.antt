@@ -11,7 +11,9 @@ use lib.IntN.{ℤ}
 use lib.ListN.{length}
 use lib.Signed.{◌<ℤ◌}
 use borrow.Author.Tests.{eqb-false}
+use Rattle.integers.specs.declared.refused.Refusal.{Refusal}
 use Rattle.integers.specs.Answers.{Answer}
+use Rattle.integers.proofs.Answers.{same_kind}
 use Rattle.integers.specs.Limits.{TASKS, U32MAX}
 use Rattle.integers.specs.Moments.{moment, zero_at}
 use Rattle.scheduling.specs.Scheduling.{whole, natural, Tasks, TaskSet, Overloads, EdgeFindingBound}
@@ -25,23 +27,22 @@ use Rattle.records.specs.Refusals.{AcceptedInput, input_number}
 use Rattle.records.proofs.AcceptedTasks.{count, proper_whole, above, proper, between}
 use Rattle.records.proofs.RefusedRuns.{accepted_input}
 use Rattle.propagator.specs.Ran.{trace_of}
-use Rattle.overload_test.specs.declared.Overload as tests
-use Rattle.overload_test.specs.declared.Overload.TheVariants as test
+use Rattle.std.specs.Prelude.{Option, Some, None, Result, Ok, Err}
 use Rattle.overload_test.specs.ReadTasks.{answer_of}
 use Rattle.overload_test.specs.Numbers.{numbers_of_overload}
 use Rattle.overload_test.specs.Tested.{OverloadTested}
 use Rattle.conflicts.specs.declared.answer.Found.{Found}
 use Rattle.conflicts.specs.declared.answer.Found.TheVariants.{NothingFound, Late, Refused}
 use Rattle.conflicts.specs.declared.answer.Conflict.{Conflict}
-use Rattle.conflicts.specs.declared.task_moments.TaskMoments.{TaskMoments}
+use Rattle.overload_test.specs.declared.task_moments.TaskMoments.{TaskMoments}
 use Rattle.conflicts.specs.Answers.{without_conflict}
-use Rattle.conflicts.specs.HeldTasks.{HoldsTasks, Overloadable}
+use Rattle.overload_test.specs.ReadArrays.{HoldsTasks}
+use Rattle.conflicts.specs.HeldTasks.{Overloadable}
 use Rattle.conflicts.specs.Numbers.{found_numbers}
 use Rattle.conflicts.specs.ConflictOf.{overloading_set, overload_by, late_in, last_post, late_by, conflict_by, conflict_of}
-use Rattle.conflicts.specs.Conflicts.{OverloadRight, LateRight, ConflictFound}
+use Rattle.conflicts.specs.Conflicts.{OverloadRight, LateRight, RefusedFor, ConflictFound}
 use Rattle.conflicts.proofs.LastPosts.{right, sets, some_post, no_run_overload}
 use Rattle.conflicts.proofs.LateSets.{late_right}
-use Rattle.overload_test.proofs.FirstOverload.{never_refuses}
 use Rattle.conflicts.proofs.OverloadingSets.{read_over, overloadable}
 use Rattle.conflicts.proofs.WholeSets.{overload_right}
 
@@ -55,26 +56,28 @@ found_in e = ap (λ (c : Conflict). c.found) e
 -- What refuses the input -------------------------------------------------------------------------------------------------------
 
 pub was_refused : (before : DisjunctivePropagator) (es ls : List ℤ) (bars : Bool) (c : Conflict) → (input_number before es ls bars ≡ 0 → ⊥)
-    → c ≡ without_conflict (Refused (input_number before es ls bars)) → ConflictFound before es ls bars c
-was_refused before es ls bars c h e = record {
-  refused = λ _. e;
+    → RefusedFor (input_number before es ls bars) c → ConflictFound before es ls bars c
+was_refused before es ls bars c h r = record {
+  refused = λ _. r;
   answer = λ z. absurd (h z);
   nothing = λ z. absurd (h z);
   overload = λ z. absurd (h z);
   late = λ z. absurd (h z);
-  overloads = λ w. apart (found_in e) w refl;
-  is_late = λ i z b w. apart (found_in e) w refl;
+  overloads = λ w. absurd (omega (arith, same_kind (sym r.answer ∙ ap found_numbers w)));
+  is_late = λ i z b w. absurd (omega (arith, same_kind (sym r.answer ∙ ap found_numbers w)));
   no_schedule = λ z. absurd (h z);
 }
 
 -- where the overload test answers a refusal
-pub where_refused : (before : DisjunctivePropagator) (es ls : List ℤ) (bars : Bool) {o : tests.Overload} → OverloadTested before es ls bars o → (number : ℕ) → o ≡ test.Refused number
-    → (c : Conflict) → c ≡ without_conflict (Refused number) → ConflictFound before es ls bars c
-where_refused before es ls bars t number z c e =
-    was_refused before es ls bars c h (e ∙ ap (λ (n : ℕ). without_conflict (Refused n)) (ap (λ (x : tests.Overload). (numbers_of_overload x).number) (sym z) ∙ ap (λ (x : Answer). x.number) (t.refused h)))
+pub where_refused : (before : DisjunctivePropagator) (es ls : List ℤ) (bars : Bool) {o : Result (Option ℕ) Refusal} → OverloadTested before es ls bars o → (why : Refusal) → o ≡ Err why
+    → (c : Conflict) → c ≡ without_conflict (Refused why) → ConflictFound before es ls bars c
+where_refused before es ls bars t why z c e = was_refused before es ls bars c h (record {
+  answer = ap found_numbers (found_in e) ∙ ap numbers_of_overload (sym z) ∙ t.refused h;
+  alone = e ∙ ap without_conflict (sym (found_in e));
+})
   where
     h : input_number before es ls bars ≡ 0 → ⊥
-    h n = never_refuses (moments_in before es ls) 0 (moments_in before es ls).count number (sym (t.answer n) ∙ z)
+    h n = let w : Ok (answer_of (moments_in before es ls)) ≡ Err why = sym (t.answer n) ∙ z in cc
 
 -- The three answers ------------------------------------------------------------------------------------------------------------
 
@@ -144,10 +147,10 @@ module _ (before : DisjunctivePropagator) (es ls : List ℤ) (bars : Bool) (acce
   -- Which of them it is --------------------------------------------------------------------------------------------------------
 
   module _ (c : Conflict) (is : c ≡ conflict_of before es ls) where
-    where_yes : (k : ℕ) → answer_of J ≡ test.Yes k → ConflictFound before es ls bars c
+    where_yes : (k : ℕ) → answer_of J ≡ Some k → ConflictFound before es ls bars c
     where_yes k e = by_overload c is (overloading_set J k) (read_over J (proper before es ls a long) k e) (is ∙ ap (conflict_by before es ls) e)
 
-    where_no : answer_of J ≡ test.No → ((Ω : TaskSet) → Overloads Z Ω → ⊥) → ConflictFound before es ls bars c
+    where_no : answer_of J ≡ None → ((Ω : TaskSet) → Overloads Z Ω → ⊥) → ConflictFound before es ls bars c
     where_no e none = by (trace_of before es ls).end refl (is ∙ ap (conflict_by before es ls) e)
       where
         by : (x : End) → (trace_of before es ls).end ≡ x → c ≡ late_by before es ls (trace_of before es ls).end → ConflictFound before es ls bars c
@@ -164,27 +167,31 @@ module _ (before : DisjunctivePropagator) (es ls : List ℤ) (bars : Bool) (acce
             (late_right Z (proper_whole before es ls a long) (above before es ls a long) few fits p (sets before es ls a long (length (trace_of before es ls).posts - 1) last) edge passes))
 
 -- The answer, by what the overload test has answered.
-module _ (before : DisjunctivePropagator) (es ls : List ℤ) (bars : Bool) (long : length before.durations ≡ TASKS) {o : tests.Overload} (t : OverloadTested before es ls bars o) where
-  module _ {v : tests.Overload} (e : o ≡ v) (z : (numbers_of_overload v).number ≡ 0) where
+answered : (v : Option ℕ) → (numbers_of_overload (Ok v)).number ≡ 0
+answered (Some k) = refl
+answered None = refl
+
+module _ (before : DisjunctivePropagator) (es ls : List ℤ) (bars : Bool) (long : length before.durations ≡ TASKS) {o : Result (Option ℕ) Refusal} (t : OverloadTested before es ls bars o) where
+  module _ {v : Option ℕ} (e : o ≡ Ok v) where
     -- it answers, so nothing refused the input
     passed : input_number before es ls bars ≡ 0
     passed = elim (ℕ_discrete (input_number before es ls bars) 0)
-        [ yes y ↦ y | no h ↦ sym (ap (λ (x : Answer). x.number) (t.refused h)) ∙ ap (λ (x : tests.Overload). (numbers_of_overload x).number) e ∙ z ]
+        [ yes y ↦ y | no h ↦ sym (ap (λ (x : Answer). x.number) (t.refused h)) ∙ ap (λ (x : Result (Option ℕ) Refusal). (numbers_of_overload x).number) e ∙ answered v ]
 
     pub held : AcceptedInput before es ls
     held = ((accepted_input before es ls bars).0 passed).0
 
     answers : answer_of (moments_in before es ls) ≡ v
-    answers = sym (t.answer passed) ∙ e
+    answers = let w : Ok (answer_of (moments_in before es ls)) ≡ Ok v = sym (t.answer passed) ∙ e in cc
 
-  module _ (k : ℕ) (e : o ≡ test.Yes k) {m : TaskMoments} (h : HoldsTasks (moments_in before es ls) m) where
+  module _ (k : ℕ) (e : o ≡ Ok (Some k)) {m : TaskMoments} (h : HoldsTasks (moments_in before es ls) m) where
     pub yes_able : Overloadable m k
-    yes_able = overloadable (moments_in before es ls) h k (answers e refl)
+    yes_able = overloadable (moments_in before es ls) h k (answers e)
 
     pub when_yes : (c : Conflict) → ((g : Overloadable m k) → c ≡ overload_by g.J (overloading_set g.J k)) → ConflictFound before es ls bars c
     unfolding yes_able
-    when_yes c d = where_yes before es ls bars (passed e refl) long c (d yes_able ∙ sym (ap (conflict_by before es ls) (answers e refl))) k (answers e refl)
+    when_yes c d = where_yes before es ls bars (passed e) long c (d yes_able ∙ sym (ap (conflict_by before es ls) (answers e))) k (answers e)
 
-  pub when_no : o ≡ test.No → (c : Conflict) → c ≡ late_by before es ls (trace_of before es ls).end → ConflictFound before es ls bars c
+  pub when_no : o ≡ Ok None → (c : Conflict) → c ≡ late_by before es ls (trace_of before es ls).end → ConflictFound before es ls bars c
   when_no e c d =
-      where_no before es ls bars (passed e refl) long c (d ∙ sym (ap (conflict_by before es ls) (answers e refl))) (answers e refl) ((t.no (passed e refl)).0 (ap numbers_of_overload e))
+      where_no before es ls bars (passed e) long c (d ∙ sym (ap (conflict_by before es ls) (answers e))) (answers e) ((t.no (passed e)).0 (ap numbers_of_overload e))

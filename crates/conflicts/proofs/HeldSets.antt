@@ -16,11 +16,12 @@ use Rattle.chosen_sets.specs.TaskArrays.{HeldSet}
 use Rattle.chosen_sets.proofs.RecordArrays.{choosing}
 use Rattle.conflicts.specs.declared.answer.Work.{Work}
 use Rattle.conflicts.specs.declared.spans.Span.{Span}
-use Rattle.conflicts.specs.declared.task_moments.TaskMoments.{TaskMoments}
+use Rattle.overload_test.specs.declared.task_moments.TaskMoments.{TaskMoments}
 use Rattle.conflicts.specs.Answers.{flagged}
 use Rattle.conflicts.specs.Spans.{with_task, work_with, span_below, span_of, work_of}
 use Rattle.conflicts.specs.ConflictOf.{others}
-use Rattle.conflicts.specs.HeldTasks.{HoldsTasks, HoldsSet}
+use Rattle.overload_test.specs.ReadArrays.{HoldsTasks}
+use Rattle.conflicts.specs.HeldTasks.{HoldsSet}
 use Rattle.conflicts.proofs.Flags.{flag_at, flag_set}
 use Rattle.conflicts.proofs.SpanValues.{span_more, span_sum, span_p, span_est}
 

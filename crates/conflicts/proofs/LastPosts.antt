@@ -5,12 +5,9 @@ use Prim.Native.Nat.{ℕ, ◌+◌, ◌*◌, ◌-◌, ◌≤◌, ◌<◌}
 use native.Mathlib.Nat.{mul-le-mul}
 use native.Mathlib.Omega.{arith}
 use lib.IntN.{ℤ, pos}
-use lib.ListN.{length, get_or, take, replicate, length-replicate}
-use lib.Seq.{ext_get_or, get_or-take, length-take-le}
-use Rattle.integers.specs.FilledLists.{filled}
+use lib.ListN.{length, get_or, take}
 use Rattle.integers.specs.Limits.{TASKS, U32MAX, MIRRORED}
 use Rattle.integers.specs.Moments.{zero_at}
-use Rattle.integers.proofs.FilledLists.{filled_length, filled_at}
 use Rattle.scheduling.specs.Scheduling.{natural, Tasks, TaskSet, NonEmpty, Overloads, Atom}
 use Rattle.scheduling.proofs.Clocks.{overload←}
 use Rattle.scheduling.proofs.Sets.{less_in}
@@ -35,11 +32,12 @@ use Rattle.propagator.proofs.AcceptedInput.{runnable, accepted}
 use Rattle.propagator.proofs.ReadTrace.{Read, handed}
 use Rattle.conflicts.specs.declared.answer.Found.TheVariants.{NothingFound}
 use Rattle.conflicts.specs.declared.answer.Conflict.{Conflict}
-use Rattle.conflicts.specs.declared.task_moments.TaskMoments.{TaskMoments}
+use Rattle.overload_test.specs.declared.task_moments.TaskMoments.{TaskMoments}
 use Rattle.conflicts.specs.Answers.{without_conflict}
 use Rattle.conflicts.specs.Spans.{span_of}
 use Rattle.conflicts.specs.ConflictOf.{others, late_in, last_post, late_by}
-use Rattle.conflicts.specs.HeldTasks.{HoldsTasks, Lates, LastPosted}
+use Rattle.overload_test.specs.ReadArrays.{HoldsTasks}
+use Rattle.conflicts.specs.HeldTasks.{Lates, LastPosted}
 use Rattle.conflicts.proofs.HeldSets.{starts_fit}
 use Rattle.conflicts.proofs.SpanValues.{span_p, span_est, span_lct}
 
@@ -61,21 +59,6 @@ module _ (J : Tasks natural) (est_order : List ℕ) (fits : (k : ℕ) → k < J.
 
   pub lates : Lates J (named p.reason) p.task
   lates = record { task = s.task; over = omega (arith, past_others) }
-
--- A copy of the starts ---------------------------------------------------------------------------------------------------------
-
-pub copy_long : (es : List ℤ) → length (filled (λ k. get_or es k (pos 0)) (length es) (replicate TASKS (pos 0))) ≡ TASKS
-copy_long es = filled_length (λ k. get_or es k (pos 0)) (length es) (replicate TASKS (pos 0)) ∙ length-replicate TASKS (pos 0)
-
-pub copied : (es : List ℤ) → length es ≤ TASKS → take (length es) (filled (λ k. get_or es k (pos 0)) (length es) (replicate TASKS (pos 0))) ≡ es
-copied es few = ext_get_or (pos 0) (take (length es) copy) es long (λ k q. get_or-take (length es) copy k (pos 0) (omega (arith, long))
-    ∙ filled_at (λ k. get_or es k (pos 0)) (length es) (replicate TASKS (pos 0)) (pos 0) k (omega (arith, long)) (omega (arith, length-replicate TASKS (pos 0))))
-  where
-    copy : List ℤ
-    copy = filled (λ k. get_or es k (pos 0)) (length es) (replicate TASKS (pos 0))
-
-    long : length (take (length es) copy) ≡ length es
-    long = length-take-le (length es) copy (omega (arith, copy_long es))
 
 -- The run ----------------------------------------------------------------------------------------------------------------------
 

@@ -4,7 +4,6 @@ pub mod SuffixSteps
 pub mod HeldSets
 pub mod SuffixWalk
 pub mod MarkedNumbers
-pub mod RecordMoments
 pub mod OverloadingSets
 pub mod LastPosts
 pub mod WholeSets

@@ -1,33 +1,34 @@
 -- A loop that marks the numbers of a list, one a turn, leaves the flags of those that stand in it: of the tasks read, and of the variables of atoms.
-use mathlib.Core.Path.{◌≡◌, refl, sym, ap, ap₂, ◌∙◌}
+use mathlib.Core.Path.{◌≡◌, refl, sym, ap, ◌∙◌}
 use mathlib.Core.Bool.{Bool, true, ◌||◌}
 use mathlib.Core.Logic.{inl, inr}
 use mathlib.Core.List.{List, [], ◌∷◌, map}
 use Prim.Native.Nat.{ℕ, zero, suc, ◌+◌, ◌*◌, ◌≤◌, ◌<◌}
 use native.Mathlib.Omega.{arith}
 use native.Mathlib.Numerals.{add-one}
-use lib.Dec.{eqb, leb}
+use lib.Dec.{eqb}
 use lib.IntN.{ℤ, pos}
 use lib.ListN.{length, get_or, set, take, length-map}
 use lib.Seq.{get_or-take, take-length, take-take}
 use borrow.Author.Tests.{eq-eqb, ne_eqb}
 use Rattle.integers.specs.Limits.{TASKS}
-use Rattle.integers.specs.Orders.{has, sort, numbers}
+use Rattle.integers.specs.Orders.{has}
 use Rattle.integers.proofs.Bools.{bool, or_swap}
 use Rattle.integers.proofs.FilledLists.{filled_none}
 use Rattle.integers.proofs.Lists.{get_d_map_in}
 use Rattle.integers.proofs.Permutations.{has_nil, has_at}
-use Rattle.scheduling.specs.Scheduling.{natural, Tasks, TaskSet, completion, Atom}
+use Rattle.scheduling.specs.Scheduling.{natural, Tasks, TaskSet, Atom}
 use Rattle.scheduling.specs.Words.{no_atom}
 use Rattle.scheduling.proofs.Words.{atoms_length, three_alone}
 use Rattle.sorts.specs.Orders.{SortedBy, by_key}
-use Rattle.sorts.proofs.Sorted.{sorted_as}
 use Rattle.runs.specs.ReasonSets.{named}
 use Rattle.overload_test.specs.ReadTasks.{by_completion, read}
+use Rattle.overload_test.proofs.NextTask.{order_is}
 use Rattle.overload_test.proofs.ReadTasks.{by_completion_is, read_small}
-use Rattle.conflicts.specs.declared.task_moments.TaskMoments.{TaskMoments}
+use Rattle.overload_test.specs.declared.task_moments.TaskMoments.{TaskMoments}
 use Rattle.conflicts.specs.Answers.{no_flags, flags_of}
-use Rattle.conflicts.specs.HeldTasks.{HoldsTasks, NamesTasks}
+use Rattle.overload_test.specs.ReadArrays.{HoldsTasks}
+use Rattle.conflicts.specs.HeldTasks.{NamesTasks}
 use Rattle.conflicts.proofs.Flags.{flag_set, flags_agree}
 
 -- the flags of the first t numbers
@@ -56,19 +57,18 @@ names_hold {J} h S small = sym (flags_agree J.count TASKS (omega (arith, h.held.
 -- The tasks by latest completion -----------------------------------------------------------------------------------------------
 
 module _ (J : Tasks natural) {m : TaskMoments} (h : HoldsTasks J m) {tasks : List ℕ} (s : SortedBy (by_key m.lct) m.count tasks) where
-  order_is : take m.count tasks ≡ by_completion J
-  order_is = sorted_as s (λ j k. leb (completion J j) (completion J k)) (λ j k p q. ap₂ leb (h.ends j p) (h.ends k q))
-      ∙ ap (λ (n : ℕ). sort (λ j k. leb (completion J j) (completion J k)) (numbers 0 n)) (sym h.held.count)
-
   task_is : (t : ℕ) → t < m.count → get_or tasks t 0 ≡ get_or (by_completion J) t 0
-  task_is t q = sym (get_or-take m.count tasks t 0 q) ∙ ap (λ (o : List ℕ). get_or o t 0) order_is
+  task_is t q = sym (get_or-take m.count tasks t 0 q) ∙ ap (λ (o : List ℕ). get_or o t 0) (order_is J h s)
 
   pub task_known : (t : ℕ) → t < m.count → get_or tasks t 0 < TASKS
   task_known t q = omega (arith, task_is t q, (by_completion_is J).task t (omega (arith, h.held.count)), h.held.count, h.held.few)
 
+  pub front_known : (k t : ℕ) → k ≤ m.count → t < k → get_or (take k tasks) t 0 < TASKS
+  front_known k t p q = omega (arith, get_or-take k tasks t 0 q, task_known t (omega arith))
+
   -- the first k of them are those read
-  pub read_marked : (k : ℕ) → k ≤ m.count → marked tasks k ≡ flags_of J.count (read J k)
-  read_marked k q = ap (λ (l : List ℕ). flags_of TASKS (has l)) (sym (take-take k m.count tasks q) ∙ ap (take k) order_is)
+  pub read_marked : (k : ℕ) → k ≤ m.count → marked (take k tasks) k ≡ flags_of J.count (read J k)
+  read_marked k q = ap (λ (l : List ℕ). flags_of TASKS (has l)) (take-take k k tasks (omega arith) ∙ sym (take-take k m.count tasks q) ∙ ap (take k) (order_is J h s))
       ∙ names_hold h (read J k) (read_small J k)
 
 -- The variables of atoms -------------------------------------------------------------------------------------------------------

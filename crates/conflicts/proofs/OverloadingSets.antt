@@ -13,24 +13,25 @@ use Rattle.scheduling.proofs.Exists.{lct_some}
 use Rattle.scheduling.proofs.Suffixes.{attaining}
 use Rattle.trees.specs.Ects.{raised_to}
 use Rattle.trees.proofs.Ects.{exceeds_yes}
-use Rattle.overload_test.specs.declared.Overload.TheVariants.{Yes}
+use Rattle.std.specs.Prelude.{Some}
 use Rattle.overload_test.specs.ReadTasks.{by_completion, read, overloads_at, answer_of}
 use Rattle.overload_test.proofs.ReadTasks.{by_completion_is, read_place}
 use Rattle.overload_test.proofs.FirstOverload.{yes_at}
 use Rattle.conflicts.specs.Suffixes.{suffix_up_to}
 use Rattle.conflicts.specs.ConflictOf.{overloading_set}
-use Rattle.conflicts.specs.declared.task_moments.TaskMoments.{TaskMoments}
-use Rattle.conflicts.specs.HeldTasks.{HoldsTasks, Overloadable}
+use Rattle.overload_test.specs.declared.task_moments.TaskMoments.{TaskMoments}
+use Rattle.overload_test.specs.ReadArrays.{HoldsTasks}
+use Rattle.conflicts.specs.HeldTasks.{Overloadable}
 use Rattle.conflicts.proofs.SuffixSteps.{Suffix, suffix}
 
 -- The answer --------------------------------------------------------------------------------------------------------------------
 
 module _ (J : Tasks natural) where
-  pub read_few : {m : TaskMoments} → HoldsTasks J m → (k : ℕ) → answer_of J ≡ Yes k → k ≤ m.count
+  pub read_few : {m : TaskMoments} → HoldsTasks J m → (k : ℕ) → answer_of J ≡ Some k → k ≤ m.count
   read_few h k e = omega (arith, (yes_at J 0 J.count k e).1, h.held.count)
 
   -- as the code holds it
-  abbrev pub overloadable : {m : TaskMoments} → HoldsTasks J m → (k : ℕ) → answer_of J ≡ Yes k → Overloadable m k
+  abbrev pub overloadable : {m : TaskMoments} → HoldsTasks J m → (k : ℕ) → answer_of J ≡ Some k → Overloadable m k
   overloadable h k e = record { J = J; holds = h; some = (yes_at J 0 J.count k e).0; few = read_few h k e; over = (yes_at J 0 J.count k e).2 }
 
 -- The set -----------------------------------------------------------------------------------------------------------------------
@@ -61,7 +62,7 @@ module _ (J : Tasks natural) (ok : Proper J) where
           last j h = subst (λ (i : ℕ). completion J i ≤ completion J (get_or (by_completion J) k 0)) ((by_completion_is J).there j h.small)
               ((by_completion_is J).sorted (index (by_completion J) j) k (omega (arith, read_place J (suc k) j (s.within j h.mem))) q)
 
-  pub read_over : (k : ℕ) → answer_of J ≡ Yes k → Overloads J (overloading_set J k)
+  pub read_over : (k : ℕ) → answer_of J ≡ Some k → Overloads J (overloading_set J k)
   read_over k e = let (least, most, over) = yes_at J 0 J.count k e in overloading k least (omega arith) over
 
 -- the same, as the code holds it

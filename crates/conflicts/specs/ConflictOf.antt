@@ -1,5 +1,5 @@
 -- The answer as a function of the input: which sets it shows are those that the overload test and the run meet.
-use Rattle.std.specs.Prelude.{◌&&◌, not, List, ℕ, ◌-◌, eqb, ℤ, length}
+use Rattle.std.specs.Prelude.{◌&&◌, not, Option, Some, None, List, ℕ, ◌-◌, eqb, ℤ, length}
 use Rattle.integers.specs.Moments.{moment, instant, zero_at}
 use Rattle.scheduling.specs.Scheduling.{natural, Tasks, TaskSet}
 use Rattle.scheduling.specs.Ects.{ect_of}
@@ -10,8 +10,6 @@ use Rattle.runs.specs.ReasonSets.{named}
 use Rattle.records.specs.declared.record.DisjunctivePropagator.{DisjunctivePropagator}
 use Rattle.records.specs.Records.{tasks_in, moments_in}
 use Rattle.propagator.specs.Ran.{trace_of}
-use Rattle.overload_test.specs.declared.Overload.TheVariants as test
-use Rattle.overload_test.specs.declared.Overload as tested
 use Rattle.overload_test.specs.ReadTasks.{read, answer_of}
 use Rattle.conflicts.specs.declared.answer.Found.TheVariants.{NothingFound, Overload, Late}
 use Rattle.conflicts.specs.declared.answer.Conflict.{Conflict}
@@ -60,10 +58,9 @@ module _ (before : DisjunctivePropagator) (es ls : List ℤ) where
   late_by emptied = late_in (moments_in before es ls) last_post.task ((tasks_in before es ls).latest last_post.task) last_post.bound (named last_post.reason)
 
   -- by what the overload test answered
-  abbrev pub conflict_by : tested.Overload → Conflict
-  conflict_by (test.Yes k) = overload_by (moments_in before es ls) (overloading_set (moments_in before es ls) k)
-  conflict_by test.No = late_by (trace_of before es ls).end
-  conflict_by (test.Refused number) = without_conflict NothingFound
+  abbrev pub conflict_by : Option ℕ → Conflict
+  conflict_by (Some k) = overload_by (moments_in before es ls) (overloading_set (moments_in before es ls) k)
+  conflict_by None = late_by (trace_of before es ls).end
 
   abbrev pub conflict_of : Conflict
   conflict_of = conflict_by (answer_of (moments_in before es ls))

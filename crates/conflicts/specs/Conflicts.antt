@@ -1,13 +1,15 @@
 -- The contract: what the call answers, over sets of tasks and schedules.
 use Rattle.std.specs.Prelude.{◌≡◌, Bool, true, List, ◌↔◌, ℕ, ◌≤◌, ◌<◌, ℤ, pos, ◌+ℤ◌, ◌<ℤ◌}
+use Rattle.integers.specs.Answers.{refused_by}
 use Rattle.scheduling.specs.Scheduling.{whole, Tasks, TaskSet, In, Subset, processing, Est, Lct, Ect, Overloads, EdgeFindingBound, Schedule}
 use Rattle.scheduling.specs.Scheduling as scheduling
 use Rattle.records.specs.declared.record.DisjunctivePropagator.{DisjunctivePropagator}
 use Rattle.records.specs.Records.{tasks_in}
 use Rattle.records.specs.Refusals.{input_number}
-use Rattle.conflicts.specs.declared.answer.Found.TheVariants.{NothingFound, Overload, Late, Refused}
+use Rattle.conflicts.specs.declared.answer.Found.TheVariants.{NothingFound, Overload, Late}
 use Rattle.conflicts.specs.declared.answer.Work.{Work}
 use Rattle.conflicts.specs.declared.answer.Conflict.{Conflict}
+use Rattle.conflicts.specs.Numbers.{found_numbers}
 use Rattle.conflicts.specs.Answers.{flagged, without_conflict}
 use Rattle.conflicts.specs.ConflictOf.{others, conflict_of}
 
@@ -45,11 +47,16 @@ module _ (J : Tasks whole) where
     pub ect : Ect J (others (flagged c.set.tasks) i) bound
     pub edge : EdgeFindingBound J i bound
 
+-- A refused call shows no set.
+pub record RefusedFor (number : ℕ) (c : Conflict) : Type 0 where
+  pub answer : found_numbers c.found ≡ refused_by number
+  pub alone : c ≡ without_conflict c.found
+
 -- On ranges whose bars fit if `bars`: the first test that fails refuses the input; else the answer is the definition's. Nothing is found exactly where no set
 -- overloads its span and no edge-finding bound passes a latest start, an overload exactly where some set overloads, and a late task exactly where none does and
 -- some bound passes. Where a conflict is found there is no schedule.
 pub record ConflictFound (before : DisjunctivePropagator) (es ls : List ℤ) (bars : Bool) (c : Conflict) : Type 0 where
-  pub refused : (input_number before es ls bars ≡ 0 → ⊥) → c ≡ without_conflict (Refused (input_number before es ls bars))
+  pub refused : (input_number before es ls bars ≡ 0 → ⊥) → RefusedFor (input_number before es ls bars) c
   pub answer : input_number before es ls bars ≡ 0 → c ≡ conflict_of before es ls
   pub nothing : input_number before es ls bars ≡ 0 → (c ≡ without_conflict NothingFound) ↔ (scheduling.Conflict (tasks_in before es ls) → ⊥)
   pub overload : input_number before es ls bars ≡ 0 → (c.found ≡ Overload) ↔ ((Ω : TaskSet) × Overloads (tasks_in before es ls) Ω)

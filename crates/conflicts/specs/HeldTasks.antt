@@ -1,27 +1,19 @@
 -- What the code holds: the tasks in arrays, a set of them as flags, and the words that a run left.
-use Rattle.std.specs.Prelude.{◌≡◌, Bool, true, false, List, [], ℕ, ◌+◌, ◌-◌, ◌*◌, ◌≤◌, ◌<◌, ℤ, pos, length, get_or}
-use Rattle.integers.specs.Limits.{TASKS, U32MAX}
-use Rattle.scheduling.specs.Scheduling.{natural, Tasks, TaskSet, In, completion, Atom}
-use Rattle.scheduling.specs.Ects.{by_earliest}
+use Rattle.std.specs.Prelude.{◌≡◌, Bool, true, List, ℕ, ◌+◌, ◌-◌, ◌*◌, ◌≤◌, ◌<◌, ℤ, pos, length}
+use Rattle.integers.specs.Limits.{TASKS}
+use Rattle.scheduling.specs.Scheduling.{natural, Tasks, TaskSet, In, Atom}
 use Rattle.scheduling.specs.Words.{atom_words}
 use Rattle.post_words.specs.Posts.{word_of_task, bound_of, reason_words}
 use Rattle.runs.specs.Traces.{Post}
 use Rattle.runs.specs.ReasonSets.{named}
-use Rattle.chosen_sets.specs.TaskArrays.{HeldSet}
+use Rattle.overload_test.specs.declared.task_moments.TaskMoments.{TaskMoments}
+use Rattle.overload_test.specs.ReadArrays.{HoldsTasks}
 use Rattle.overload_test.specs.ReadTasks.{overloads_at}
-use Rattle.conflicts.specs.declared.task_moments.TaskMoments.{TaskMoments}
 use Rattle.conflicts.specs.Answers.{flags_of}
 use Rattle.conflicts.specs.Spans.{span_of}
 use Rattle.conflicts.specs.ConflictOf.{others}
 
--- The arrays hold the tasks J.
-pub record HoldsTasks (J : Tasks natural) (m : TaskMoments) : Type 0 where
-  pub held : HeldSet J (λ _. false) m.count [] m.est m.durations
-  pub ends : (k : ℕ) → k < m.count → get_or m.lct k 0 ≡ completion J k
-  pub fits : (k : ℕ) → k < m.count → completion J k ≤ U32MAX
-  pub order : (x : ℕ) → x < m.count → get_or m.order x 0 ≡ get_or (by_earliest J) x 0
-
--- And the flags are those of a set of these tasks.
+-- The arrays hold tasks, and the flags are those of a set of these.
 pub record HoldsSet (m : TaskMoments) (tasks : List Bool) : Type 0 where
   pub J : Tasks natural
   pub Ω : TaskSet

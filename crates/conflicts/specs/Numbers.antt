@@ -1,6 +1,7 @@
 -- What was found, by the papers' numbers.
 use Rattle.std.specs.Prelude.{[], ◌∷◌, pos}
 use Rattle.integers.specs.Answers.{Answer, answered, refused_by}
+use Rattle.integers.specs.Refused.{number_of}
 use Rattle.conflicts.specs.declared.answer.Found.{Found}
 use Rattle.conflicts.specs.declared.answer.Found.TheVariants.{NothingFound, Overload, Late, Refused}
 
@@ -9,4 +10,4 @@ abbrev pub found_numbers : Found → Answer
 found_numbers NothingFound = answered 0 []
 found_numbers Overload = answered 1 []
 found_numbers (Late task latest_start bound) = answered 2 (pos task ∷ latest_start ∷ bound ∷ [])
-found_numbers (Refused number) = refused_by number
+found_numbers (Refused why) = refused_by (number_of why)

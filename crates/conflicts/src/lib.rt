@@ -8,4 +8,3 @@ mod late_task;
 mod overloading;
 mod spans;
 mod suffixes;
-mod task_moments;

@@ -4,10 +4,9 @@ ghost use Rattle.conflicts.specs.Spans.{with_task, past_by, work_with, span_of};
 ghost use Rattle.conflicts.specs.HeldTasks.{HoldsSet};
 
 use crate::answer::Work;
-use crate::task_moments::TaskMoments;
 use integers::limits::TASKS;
 use integers::moments::start_of;
-use integers::numbers::{max, min};
+use overload_test::task_moments::TaskMoments;
 
 #[derive(Clone, Copy)]
 pub struct Span {
@@ -24,8 +23,8 @@ impl Span {
     {
         if member {
             return Span {
-                est: min(self.est, est),
-                lct: max(self.lct, lct),
+                est: self.est.min(est),
+                lct: self.lct.max(lct),
                 p: self.p + p,
             };
         }
@@ -42,19 +41,17 @@ impl Span {
 }
 
 // The span of a set.
-pub fn span_of(m: TaskMoments, tasks: [bool; TASKS]) -> Span
-    requires { HoldsSet m tasks }
-    ensures { (h : HoldsSet m tasks) → result ≡ span_of h.J h.Ω }
+pub fn span_of(m: &TaskMoments, tasks: &[bool; TASKS]) -> Span
+    requires { HoldsSet m.now tasks.now }
+    ensures { (h : HoldsSet m.now tasks.now) → result ≡ span_of h.J h.Ω }
 {
     let mut span = Span {
         est: u32::MAX,
         lct: 0,
         p: 0,
     };
-    let mut k = 0;
-    while k < m.count {
+    for k in 0..m.count {
         span = span.with(tasks[k], m.est[k], m.lct[k], m.durations[k]);
-        k += 1;
     }
     span
 }

@@ -5,20 +5,20 @@ ghost use Rattle.conflicts.specs.Suffixes.{suffix_up_to};
 ghost use Rattle.conflicts.specs.HeldTasks.{HoldsSet};
 
 use crate::spans::span_of;
-use crate::task_moments::TaskMoments;
 use integers::limits::TASKS;
+use overload_test::task_moments::TaskMoments;
+use sorts::sort_numbers;
 
 // Tasks are taken out, the earliest first, until est + p of those left is the moment.
-pub fn suffix_to(m: TaskMoments, tasks: [bool; TASKS], moment: u32) -> [bool; TASKS]
-    requires { HoldsSet m tasks }
-    ensures { (h : HoldsSet m tasks) → result ≡ flags_of h.J.count (suffix_up_to h.J h.Ω moment) }
+pub fn suffix_to(m: &TaskMoments, tasks: [bool; TASKS], moment: u32) -> [bool; TASKS]
+    requires { HoldsSet m.now tasks }
+    ensures { (h : HoldsSet m.now tasks) → result ≡ flags_of h.J.count (suffix_up_to h.J h.Ω moment) }
 {
+    let mut order: [usize; TASKS] = [0; TASKS];
+    sort_numbers(&mut order, m.count, &m.est);
+    let mut p = span_of(m, &tasks).p;
     let mut left = tasks;
-    let span = span_of(m, tasks);
-    let mut p = span.p;
-    let mut x = 0;
-    while x < m.count {
-        let k = m.order[x];
+    for &k in &order[..m.count] {
         if left[k] {
             if m.est[k] + p == moment {
                 return left;
@@ -26,7 +26,6 @@ pub fn suffix_to(m: TaskMoments, tasks: [bool; TASKS], moment: u32) -> [bool; TA
             left[k] = false;
             p -= m.durations[k];
         }
-        x += 1;
     }
     left
 }

@@ -28,10 +28,8 @@ fn put_tasks(out: &mut [u8], at: usize, n: usize) -> usize
     ensures within { result ≤ at + 63 * n }
 {
     let mut end = at;
-    let mut k = 0;
-    while k < n {
+    for k in 0..n {
         end = put_task(out, end, k);
-        k += 1;
     }
     end
 }

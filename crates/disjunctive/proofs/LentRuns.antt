@@ -1,7 +1,7 @@
 -- What the cores leave of ranges that are taken apart is, stored back, what the calls on lent ranges promise.
 use mathlib.Core.List.{List, [], ◌++◌}
-use mathlib.Core.Path.{◌≡◌, refl, sym, subst, ◌∙◌}
-use Prim.Native.Nat.{ℕ, ◌≤◌, ◌<◌}
+use mathlib.Core.Path.{◌≡◌, refl, sym, ap, subst, ◌∙◌}
+use Prim.Native.Nat.{ℕ, ◌<◌}
 use native.Mathlib.Omega.{arith}
 use lib.IntN.{ℤ, pos}
 use lib.ListN.{length, take, drop, replicate, length-map}
@@ -19,7 +19,7 @@ use Rattle.ranges.specs.declared.range.Range.{Range}
 use Rattle.ranges.specs.Bars.{all_bars_are_fit}
 use Rattle.ranges.specs.Ranges.{earliests, latests, with_starts, with_latests}
 use Rattle.ranges.proofs.StoredStarts.{with_none, own_starts, latest_none, own_latests}
-use Rattle.ranges.specs.TakenApart.{taken, TakenInto}
+use Rattle.ranges.specs.TakenApart.{TakenInto}
 use Rattle.ranges.proofs.TakenApart.{taken_fits, taken_starts, stored}
 use Rattle.promises.specs.RanLent.{RanLent}
 use Rattle.promises.specs.RanMirroredLent.{RanMirroredLent}
@@ -35,14 +35,15 @@ module _ (before : DisjunctivePropagator) (ys : List Range) (n : ℕ) (es ls : L
   left_stored : (Said : List ℤ → List ℤ → List ℤ → Type 0) (us : List ℤ) → length us ≡ TASKS → (zs : List ℤ) → length zs ≡ length (take n us) → Said (take n es) (take n ls) zs
       → (with : List Range → List ℤ → List Range) (own : List ℤ) → length own ≡ length ys → with ys [] ≡ ys → with ys own ≡ ys
       → (TASKS < length (earliests ys) → Said [] [] [] → Said (earliests ys) (latests ys) own)
-      → (vs : List ℤ) × (length vs ≡ length ys) × Said (earliests ys) (latests ys) vs × (with ys (take n (zs ++ drop n us)) ≡ with ys vs)
+      → (vs : List ℤ) × (length vs ≡ length ys) × Said (earliests ys) (latests ys) vs × (with ys zs ≡ with ys vs)
   left_stored Said us all zs same c with own size none whole as_none =
       let l : length zs ≡ n = same ∙ length-take-le n us (omega (arith, all, t.count, taken_fits (length ys))) in
-      stored Said ys (record { count = n; earliest = es; latest = ls }) (taken_starts ys n es ls t) n refl (zs ++ drop n us) (same_len n us zs same ∙ all)
-      (subst (Said (take n es) (take n ls)) (sym (take_at zs (drop n us) n l)) c) with own size none whole as_none
+      let (vs, size', said, stays) = stored Said ys (record { count = n; earliest = es; latest = ls }) (taken_starts ys n es ls t) n refl (zs ++ drop n us) (same_len n us zs same ∙ all)
+      (subst (Said (take n es) (take n ls)) (sym (take_at zs (drop n us) n l)) c) with own size none whole as_none in
+      (vs, size', said, ap (with ys) (sym (take_at zs (drop n us) n l)) ∙ stays)
 
   -- the run, and the pass by precedences
-  module _ (all : length es ≡ TASKS) (zs : List ℤ) (same : length zs ≡ length (take n es)) (rs : List Range) (are : rs ≡ with_starts ys (take n (zs ++ drop n es))) where
+  module _ (all : length es ≡ TASKS) (zs : List ℤ) (same : length zs ≡ length (take n es)) (rs : List Range) (are : rs ≡ with_starts ys zs) where
     pub lent_run : (posts atoms : List ℤ) (r : Run) (posts' atoms' : List ℤ) → Ran before (take n es) (take n ls) (all_bars_are_fit ys) posts atoms r zs posts' atoms'
         → RanLent before ys posts atoms r.outcome r.changes r.«record» rs posts' atoms'
     lent_run posts atoms r posts' atoms' c =
@@ -59,7 +60,7 @@ module _ (before : DisjunctivePropagator) (ys : List Range) (n : ℕ) (es ls : L
         rw (are ∙ stays) (lent_precedences before ys r us size ran)
 
   -- the mirrored pass
-  pub lent_mirrored_run : length ls ≡ TASKS → (zs : List ℤ) → length zs ≡ length (take n ls) → (rs : List Range) → rs ≡ with_latests ys (take n (zs ++ drop n ls))
+  pub lent_mirrored_run : length ls ≡ TASKS → (zs : List ℤ) → length zs ≡ length (take n ls) → (rs : List Range) → rs ≡ with_latests ys zs
       → (posts atoms : List ℤ) (r : Outcome) (posts' atoms' : List ℤ) → RanMirrored before (take n es) (take n ls) (all_bars_are_fit ys) posts atoms r zs posts' atoms'
       → RanMirroredLent before ys posts atoms r rs posts' atoms'
   lent_mirrored_run all zs same rs are posts atoms r posts' atoms' c =
@@ -67,18 +68,3 @@ module _ (before : DisjunctivePropagator) (ys : List Range) (n : ℕ) (es ls : L
       (latests ys) (length-map ys (λ (y : Range). y.latest)) (latest_none ys) (own_latests ys)
       (λ h a. too_many_mirrored before (earliests ys) (latests ys) (all_bars_are_fit ys) (all_bars_are_fit ys) posts atoms _ [] posts' atoms' h a) in
       rw (are ∙ stays) (lent_mirrored before ys posts atoms r us posts' atoms' size ran)
-
--- the first n places of an array of numbers: they are there, and so they are once a core has left others in them
-module _ (ys : List Range) (n : ℕ) (count : n ≡ taken (length ys)) (us : List ℤ) (all : length us ≡ TASKS) where
-  pub places_there : n ≤ length us
-  places_there = omega (arith, taken_fits (length ys))
-
-  pub places_lent : n ≡ length (take n us)
-  places_lent = sym (length-take-le n us places_there)
-
-  module _ (zs : List ℤ) (same : length zs ≡ length (take n us)) where
-    pub left_there : n ≤ length (zs ++ drop n us)
-    left_there = omega (arith, same_len n us zs same, places_there)
-
-    pub left_lent : n ≡ length (take n (zs ++ drop n us))
-    left_lent = sym (length-take-le n (zs ++ drop n us) left_there)

@@ -1,25 +1,17 @@
 -- What a core says of starts that were read off lent ranges is said of the ranges.
 use mathlib.Core.Bool.{Bool}
 use mathlib.Core.List.{List, []}
-use mathlib.Core.Path.{◌≡◌, refl}
-use Prim.Native.Nat.{◌≤◌, ◌<◌}
+use mathlib.Core.Path.{◌≡◌}
+use Prim.Native.Nat.{◌<◌}
 use lib.IntN.{ℤ}
 use lib.ListN.{length}
 use Rattle.integers.specs.Limits.{TASKS}
 use Rattle.ranges.specs.declared.range.Range.{Range}
-use Rattle.ranges.specs.declared.starts.Starts.{Starts}
 use Rattle.ranges.specs.declared.starts.StartsWithBars.{StartsWithBars}
 use Rattle.ranges.specs.Bars.{all_bars_are_fit}
 use Rattle.ranges.specs.Ranges.{earliests, latests}
-use Rattle.ranges.specs.TakenApart.{starts_taken, starts_and_bars, first_earliest, first_latest}
-use Rattle.ranges.proofs.TakenApart.{bars_of, apart, starts_of_are, starts_fit}
-
--- no more are read than any record has tasks
-pub few : (ys : List Range) (s : Starts) → s ≡ starts_taken ys → s.count ≤ TASKS
-few ys s e = (starts_fit ys s s e refl).0
-
-pub few_with_bars : (ys : List Range) (s : StartsWithBars) → s ≡ starts_and_bars ys → s.starts.count ≤ TASKS
-few_with_bars ys s e = few ys s.starts (starts_of_are ys s e)
+use Rattle.ranges.specs.TakenApart.{starts_and_bars, first_earliest, first_latest}
+use Rattle.ranges.proofs.TakenApart.{bars_of, apart, starts_of_are}
 
 -- where the bars' answer was read too
 pub said_with_bars : (Said : List ℤ → List ℤ → Bool → Type 0) (ys : List Range) (s : StartsWithBars) → s ≡ starts_and_bars ys

@@ -9,7 +9,7 @@ ghost use Rattle.promises.specs.RanMirroredLent.{RanMirroredLent};
 ghost use Rattle.disjunctive.specs.GivenRanges.{lent_of, given, StoredIn};
 
 use crate::open_calls;
-use overload_test::Overload;
+use integers::refused::Refusal;
 use ranges::range::Range;
 use records::record::DisjunctivePropagator;
 use runs::outcome::{Finished, Outcome};
@@ -48,17 +48,25 @@ pub struct RanMirrored {
     pub ranges: [Range; RANGES],
 }
 
-// How many ranges are lent for a count.
-pub(crate) fn lent(count: usize) -> usize
-    ensures { result ≡ lent_of count }
-{
-    if count <= RANGES {
-        return count;
+impl Ranges {
+    // The ranges that a call is given.
+    pub(crate) fn given(&self) -> &[Range]
+        ensures { result.now ≡ given self.now }
+    {
+        &self.ranges[..self.count.min(RANGES)]
     }
-    RANGES
+
+    // How many they are.
+    #[tactic(auto, unfolding(crate::specs::GivenRanges::lent_of))]
+    pub(crate) fn lent(&self) -> usize
+        ensures { result ≡ lent_of self.now.count }
+    {
+        self.given().len()
+    }
 }
 
 // The run. The record is unchanged by contract, and is not returned.
+#[tactic(auto, unfolding(crate::specs::GivenRanges::lent_of))]
 pub fn run(
     mut record: DisjunctivePropagator,
     ranges: Ranges,
@@ -68,7 +76,7 @@ pub fn run(
     ensures { StoredIn ranges result.ranges (λ ys ys'. RanLent «record» ys posts.old atoms.old result.finished.outcome
         result.finished.changes «record» ys' posts.new atoms.new) }
 {
-    let n = lent(ranges.count);
+    let n = ranges.lent();
     let mut kept = ranges.ranges;
     let finished = open_calls::run(&mut record, &mut kept[..n], posts, atoms);
     Ran {
@@ -78,6 +86,7 @@ pub fn run(
 }
 
 // The mirrored pass.
+#[tactic(auto, unfolding(crate::specs::GivenRanges::lent_of))]
 pub fn run_mirrored(
     record: DisjunctivePropagator,
     ranges: Ranges,
@@ -87,7 +96,7 @@ pub fn run_mirrored(
     ensures { StoredIn ranges result.ranges (λ ys ys'. RanMirroredLent «record» ys posts.old atoms.old result.outcome ys'
         posts.new atoms.new) }
 {
-    let n = lent(ranges.count);
+    let n = ranges.lent();
     let mut kept = ranges.ranges;
     let outcome = open_calls::run_mirrored(&record, &mut kept[..n], posts, atoms);
     RanMirrored {
@@ -97,11 +106,11 @@ pub fn run_mirrored(
 }
 
 // The overload test.
-pub fn overload_test(record: DisjunctivePropagator, ranges: Ranges) -> Overload
+pub fn overload_test(
+    record: DisjunctivePropagator,
+    ranges: Ranges,
+) -> Result<Option<usize>, Refusal>
     ensures { OverloadTested «record» (earliests (given ranges)) (latests (given ranges)) (all_bars_are_fit (given ranges)) result }
 {
-    let n = lent(ranges.count);
-    let kept = ranges.ranges;
-    let answer = open_calls::overload_test(&record, &kept[..n]);
-    answer
+    open_calls::overload_test(&record, ranges.given())
 }

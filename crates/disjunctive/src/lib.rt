@@ -7,32 +7,24 @@
 #![tactic(auto)]
 
 pub mod by_value;
-mod conflict_cores;
-mod cores;
-mod fixed_schedule_cores;
 pub mod open_calls;
-mod precedence_cores;
+mod taken_starts;
 
 pub use crate::open_calls::by_precedence::{precedence_bound, precedence_reason, precedences};
 pub use crate::open_calls::of_conflicts::{conflict, conflict_page};
 pub use crate::open_calls::of_fixed_schedules::{busiest_stretch, charges, free_start, page};
 pub use crate::open_calls::{overload_test, run, run_mirrored};
-pub use busiest_stretch::answer::Busiest;
-pub use charges::answer::{Charges, Charging};
+pub use busiest_stretch::answer::Stretch;
+pub use charges::answer::Charges;
 pub use checker::checker::{Verdict, check, check_mirrored};
 pub use checking::domain::Domain;
 pub use checking::int_ext::IntExt;
-pub use checking::variable_state::{Application, Applied, Bound, Truth, VariableState};
-pub use conflict_pages::answer::ConflictPage;
+pub use checking::variable_state::{Application, Applied, VariableState};
 pub use conflicts::answer::{Conflict, Found, Work};
-pub use free_starts::FreeStart;
-pub use overload_test::Overload;
-pub use pages::answer::Page;
+pub use integers::refused::Refusal;
 pub use post_words::{post_number, post_reason};
 pub use precedences::answers::Precedences;
-pub use precedences::reason::{BoundAbove, Reason};
 pub use ranges::range::Range;
-pub use records::record::{Created, Creation, DisjunctivePropagator, create};
+pub use records::record::{Created, DisjunctivePropagator, create};
 pub use runs::outcome::{Finished, Outcome};
-pub use task_changes::changes::Change;
 pub use task_changes::lent::{add, remove};

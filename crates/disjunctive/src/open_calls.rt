@@ -12,10 +12,10 @@ ghost use Rattle.ranges.specs.Ranges.{earliests, latests};
 ghost use Rattle.promises.specs.RanLent.{RanLent};
 ghost use Rattle.promises.specs.RanMirroredLent.{RanMirroredLent};
 
-use crate::cores::overload_core;
+use crate::taken_starts::{earliest_of, latest_of};
 use integers::limits::TASKS;
+use integers::refused::Refusal;
 use mirrored::mirrored_propagator::propagate_mirrored;
-use overload_test::Overload;
 use propagator::disjunctive_propagator::propagate;
 use ranges::bars::all_bars_fit;
 use ranges::range::Range;
@@ -25,6 +25,7 @@ use runs::outcome::{Finished, Outcome};
 
 // Earliest starts are raised in the ranges; no latest start changes. The record becomes the one that the core returns, which is equal to it.
 // Beside the outcome stands the count of leaf changes.
+#[tactic(auto, unfolding(ranges::specs::TakenApart::taken))]
 pub fn run(
     propagator: &mut DisjunctivePropagator,
     ranges: &mut [Range],
@@ -38,15 +39,16 @@ pub fn run(
     let mut earliest = [0; TASKS];
     let mut latest = [0; TASKS];
     let count = take_apart(ranges, &mut earliest, &mut latest);
+    let earliest = &mut earliest[..count];
     let ran = propagate(
         *propagator,
-        &mut earliest[..count],
+        earliest,
         &latest[..count],
         bars_fit,
         posts,
         atoms,
     );
-    store_starts(ranges, &earliest[..count]);
+    store_starts(ranges, earliest);
     *propagator = ran.record;
     Finished {
         outcome: ran.outcome,
@@ -55,6 +57,7 @@ pub fn run(
 }
 
 // Latest starts fall in the ranges; no earliest start changes.
+#[tactic(auto, unfolding(ranges::specs::TakenApart::taken))]
 pub fn run_mirrored(
     propagator: &DisjunctivePropagator,
     ranges: &mut [Range],
@@ -68,23 +71,32 @@ pub fn run_mirrored(
     let mut earliest = [0; TASKS];
     let mut latest = [0; TASKS];
     let count = take_apart(ranges, &mut earliest, &mut latest);
+    let latest = &mut latest[..count];
     let outcome = propagate_mirrored(
         *propagator,
         &earliest[..count],
-        &mut latest[..count],
+        latest,
         bars_fit,
         posts,
         atoms,
     );
-    store_latest(ranges, &latest[..count]);
+    store_latest(ranges, latest);
     outcome
 }
 
 // Whether some set of the record's tasks overloads in these ranges. Nothing lent is changed.
-pub fn overload_test(propagator: &DisjunctivePropagator, ranges: &[Range]) -> Overload
+pub fn overload_test(
+    propagator: &DisjunctivePropagator,
+    ranges: &[Range],
+) -> Result<Option<usize>, Refusal>
     ensures { OverloadTested propagator.now (earliests ranges.now) (latests ranges.now)
         (all_bars_are_fit ranges.now) result }
 {
-    let starts = starts_with_bars(ranges);
-    overload_core(*propagator, starts)
+    let taken = starts_with_bars(ranges);
+    overload_test::overload_test(
+        *propagator,
+        earliest_of(&taken.starts),
+        latest_of(&taken.starts),
+        taken.bars_fit,
+    )
 }

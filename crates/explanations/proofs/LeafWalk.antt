@@ -2,7 +2,7 @@
 use mathlib.Core.Path.{◌≡◌, sym, ap, subst, ◌∙◌}
 use mathlib.Core.Bool.{Bool, true, false}
 use mathlib.Core.List.{List, [], ◌∷◌, ◌++◌}
-use Prim.Native.Nat.{ℕ, zero, suc, ◌+◌, ◌-◌, ◌^◌, ◌≤◌, ◌<◌}
+use Prim.Native.Nat.{ℕ, zero, suc, ◌+◌, ◌-◌, ◌≤◌, ◌<◌}
 use native.Mathlib.Omega.{arith}
 use native.Mathlib.Numerals.{add-one}
 use native.Mathlib.Decide.{dec_lt, ℕ_discrete}
@@ -12,7 +12,8 @@ use Rattle.trees.specs.Searches.{theta_of}
 use Rattle.trees.specs.ArraySearches.{Next}
 use Rattle.trees.proofs.WhiteTasks.{theta_none, theta_white, theta_skip}
 use Rattle.runs.proofs.WalkStops.{theta_append}
-use Rattle.explanations.specs.Walks.{lasts, Each, At, Somewhere, Walks, Meets, between, StopsAt, Known, Walk}
+use Rattle.explanations.specs.Walks.{lasts, Each, At, Somewhere, Walks, Meets, between}
+use Rattle.explanations.specs.Leaves.{Asks}
 use Rattle.explanations.proofs.Places.{lasts_cons, lasts_drop}
 
 module _ (white : ℕ → Bool) (task : ℕ → ℕ) where
@@ -132,21 +133,21 @@ module _ (white : ℕ → Bool) (task : ℕ → ℕ) (a n : ℕ) (leaf : ℕ →
 pub theta_meets : (white : ℕ → Bool) (task : ℕ → ℕ) (n : ℕ) (leaf : ℕ → ℕ) → Walks white 0 n leaf → Meets task (theta_of white task 0 n) 0 n leaf
 theta_meets white task n leaf w = rw (all_leaves white task n) (walk_meets white task 0 n leaf w)
 
--- What a walk knows at leaf x, before it asks there.
-pub record WalkedTo (white : ℕ → Bool) (task : ℕ → ℕ) (P : ℕ → ℕ → Type 0) (ds : List ℕ) (a n x q : ℕ) : Type 0 where
+-- What a walk knows at leaf x, before it asks there: at each task before, the answer was no.
+pub record WalkedTo (white : ℕ → Bool) (task : ℕ → ℕ) (No : ℕ → ℕ → Type 0) (ds : List ℕ) (a n x q : ℕ) : Type 0 where
   pub from : a ≤ x
   pub small : x < n
   pub here : white x ≡ true
   pub rest : q ≡ lasts ds (drop (length (between white task a x)) (between white task a n))
-  pub before : (y : ℕ) → y < length (between white task a x) → At P ds (between white task a n) y → ⊥
+  pub no : (y : ℕ) → y < length (between white task a x) → At No ds (between white task a n) y
 
-module _ {white : ℕ → Bool} {task : ℕ → ℕ} {P : ℕ → ℕ → Type 0} {ds : List ℕ} {a n : ℕ} where
-  pub sets_out : {es : List ℕ} {p d x : ℕ} → Walk P (between white task a n) es ds p d → Next white a n x → WalkedTo white task P ds a n x p
-  sets_out {x = x} g y =
-      let small : x < n = met_inside white task a n x y.from y.to (omega (arith, met_first white task y, g.stops.small)) in
-      record { from = y.from; small = small; here = y.found small; rest = rw (met_first white task y) g.total; before = λ z h. absurd (omega (arith, met_first white task y)) }
+module _ {white : ℕ → Bool} {task : ℕ → ℕ} {No : ℕ → ℕ → Type 0} {ds : List ℕ} {a n : ℕ} where
+  pub sets_out : {p x : ℕ} → p ≡ lasts ds (between white task a n) → Somewhere (λ k q. No k q → ⊥) ds (between white task a n) → Next white a n x → WalkedTo white task No ds a n x p
+  sets_out {x = x} total s y =
+      let small : x < n = met_inside white task a n x y.from y.to (omega (arith, met_first white task y, s.small)) in
+      record { from = y.from; small = small; here = y.found small; rest = rw (met_first white task y) total; no = λ z h. absurd (omega (arith, met_first white task y)) }
 
-  module _ {x q : ℕ} (w : WalkedTo white task P ds a n x q) where
+  module _ {x q : ℕ} (w : WalkedTo white task No ds a n x q) where
     abbrev tasks : List ℕ
     tasks = between white task a n
 
@@ -166,33 +167,29 @@ module _ {white : ℕ → Bool} {task : ℕ → ℕ} {P : ℕ → ℕ → Type 0
     pub enough_there : get_or ds (task x) 0 ≤ q
     enough_there = omega (arith, next_lasts)
 
-    module _ {es : List ℕ} {p d : ℕ} (g : Walk P (between white task a n) es ds p d) where
-      pub known_there : Known es ds (task x)
-      known_there = met_each white task a n x w.from w.small w.here (Known es ds) g.known
+    -- they last no longer than all
+    less_there : {p : ℕ} → p ≡ lasts ds (between white task a n) → q ≤ p
+    less_there total = omega (arith, w.rest, lasts_drop ds tasks so_far)
 
-      -- no sum wraps
-      pub sum_there : get_or es (task x) 0 + q + d < 2 ^ 32
-      sum_there = omega (
-        arith,
-        w.rest,
-        lasts_drop ds tasks so_far,
-        g.total,
-        met_each white task a n x w.from w.small w.here (λ k. get_or es k 0 + p + d < 2 ^ 32) g.fits,
-      )
+    -- what holds of each task holds of that of x
+    pub each_met : (Q : ℕ → Type 0) → Each Q (between white task a n) → Q (task x)
+    each_met = met_each white task a n x w.from w.small w.here
 
-    -- the walk goes on to the next leaf: there is one, since the walk stops somewhere and has not so far
-    pub walks_on : {y : ℕ} → Somewhere P ds (between white task a n) → (P (task x) q → ⊥) → Next white (x + 1) n y → WalkedTo white task P ds a n y (q - get_or ds (task x) 0)
+    -- it may ask there
+    pub asked_there : {may : ℕ → ℕ → Type 0} {answers : ℕ → ℕ → Bool → Type 0} {es : List ℕ} {p : ℕ} → Asks may answers (between white task a n) es ds p → may (get_or es (task x) 0) q
+    asked_there {may} {es = es} {p = p} g = each_met (λ k. (q : ℕ) → q ≤ p → may (get_or es k 0) q) g.asked q (less_there g.total)
+
+    -- the walk goes on to the next leaf: there is one, since somewhere the answer cannot be no
+    pub walks_on : {y : ℕ} → Somewhere (λ k q. No k q → ⊥) ds (between white task a n) → No (task x) q → Next white (x + 1) n y
+        → WalkedTo white task No ds a n y (q - get_or ds (task x) 0)
     walks_on {y} s unmet t =
         let more : length (between white task a y) ≡ suc so_far = met_next white task a n x w.from w.small w.here t ∙ add-one so_far in
         let from : a ≤ y = omega (arith, w.from, t.from) in
         let small : y < n = met_inside white task a n y from t.to (omega (arith, more, later, s.small)) in
-        record { from = from; small = small; here = t.found small; rest = rw more (omega (arith, next_lasts)); before = λ z h. before z (omega (arith, more)) }
+        record { from = from; small = small; here = t.found small; rest = rw more (omega (arith, next_lasts)); no = λ z h. so_no z (omega (arith, more)) }
       where
-        before : (z : ℕ) → z < suc so_far → At P ds tasks z → ⊥
-        before z h b = elim (ℕ_discrete z so_far) [ yes e ↦ unmet (rw (is, ← w.rest) at (subst (At P ds tasks) e b)) | no e ↦ w.before z (omega arith) b ]
+        so_no : (z : ℕ) → z < suc so_far → At No ds tasks z
+        so_no z h = elim (ℕ_discrete z so_far) [ yes e ↦ subst (At No ds tasks) (sym e) (rw (is, ← w.rest) unmet) | no e ↦ w.no z (omega arith) ]
 
         later : so_far < s.place
-        later = elim (dec_lt so_far s.place) [ yes z ↦ z | no z ↦ absurd (before s.place (omega arith) s.holds) ]
-
-    pub halts : P (task x) q → StopsAt white task P ds a n x q
-    halts h = record { from = w.from; small = w.small; here = w.here; first = record { small = there; rest = w.rest; holds = rw is h; before = w.before } }
+        later = elim (dec_lt so_far s.place) [ yes z ↦ z | no z ↦ absurd (s.holds (so_no s.place (omega arith))) ]

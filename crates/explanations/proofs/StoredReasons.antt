@@ -1,6 +1,6 @@
 -- The explanations' words in the slice of atoms, and what their input gives at each step.
 use mathlib.Core.Path.{◌≡◌, refl, sym, ap, subst, ◌∙◌}
-use mathlib.Core.Bool.{Bool}
+use mathlib.Core.Bool.{Bool, true, false}
 use mathlib.Core.List.{List, [], ◌∷◌}
 use Prim.Native.Nat.{ℕ, ◌+◌, ◌-◌, ◌*◌, ◌^◌, ◌≤◌, ◌<◌, min}
 use native.Mathlib.Omega.{arith}
@@ -12,16 +12,47 @@ use Rattle.integers.specs.Moments.{instant, zero_at}
 use Rattle.runs.specs.Runs.{at_least, within, conflict, conflict_of, bounds, propagation}
 use Rattle.scheduling.specs.Words.{atom_words}
 use Rattle.explanations.specs.Walks.{lasts, Each, Precedes, Attains, between, StopsAt, Known, Walk}
+use Rattle.explanations.specs.Leaves.{white_of, task_at, Asks, HaltsAt}
+use Rattle.explanations.specs.declared.theta.Theta.{Theta}
 use Rattle.explanations.specs.WrittenAtoms.{starting, lasting, Ends, Writable}
 use Rattle.post_words.specs.StoredAtoms.{Stored}
 use Rattle.explanations.specs.Explanations.{Overloads, White, ConflictExplainable, PropagationExplainable}
 use Rattle.scheduling.proofs.Words.{atoms_none, atoms_more}
 use Rattle.explanations.proofs.Places.{lasts_drop}
-use Rattle.explanations.proofs.LeafWalk.{between_white, between_split, met_front, met_rest, met_task, met_each}
+use Rattle.explanations.proofs.LeafWalk.{between_white, between_split, met_front, met_rest, met_task, met_small, met_each}
 use Rattle.post_words.proofs.StoredAtoms.{stored_then, stored_length}
-use Rattle.explanations.proofs.Parts.{each_drop, each_take, first_same}
+use Rattle.explanations.proofs.Parts.{each_drop, each_take}
 use Rattle.explanations.proofs.ExplanationAtoms.{conflict_at, propagation_at, bounds_at_are, within_same}
 use Rattle.runs.proofs.ReasonLengths.{within_length, bounds_length}
+
+-- Walks that ask ---------------------------------------------------------------------------------------------------------------
+
+-- what a walk asks for, where the answer is no only if P does not hold
+pub asks : {P : ℕ → ℕ → Type 0} {may : ℕ → ℕ → Type 0} {answers : ℕ → ℕ → Bool → Type 0} {ks es ds : List ℕ} {p d : ℕ} → Walk P ks es ds p d
+    → ((e q : ℕ) → e + q + d < 2 ^ 32 → may e q) → ((k q : ℕ) → P k q → answers (get_or es k 0) q false → ⊥)
+    → Asks may answers ks es ds p
+asks w may wrong = record {
+  known = w.known;
+  total = w.total;
+  asked = λ x s q h. may _ q (omega (arith, w.fits x s));
+  stops = record { place = w.stops.place; small = w.stops.small; holds = wrong _ _ w.stops.holds };
+}
+
+-- it stops where P holds for the first time, where the answer says whether P does
+pub stops_at : {P : ℕ → ℕ → Type 0} {answers : ℕ → ℕ → Bool → Type 0} {t : Theta} {a x q : ℕ} → HaltsAt answers t a x q
+    → ((k r : ℕ) → answers (get_or t.est.now k 0) r true → P k r) → ((k r : ℕ) → answers (get_or t.est.now k 0) r false → P k r → ⊥)
+    → StopsAt (white_of t) (task_at t) P t.durations.now a t.n x q
+stops_at {P} {answers} {t} {a} {x} {q} h right wrong = record {
+  from = h.from;
+  small = h.small;
+  here = h.here;
+  first = record {
+    small = met_small (white_of t) (task_at t) a t.n x h.from h.small h.here;
+    rest = h.rest;
+    holds = rw (met_task (white_of t) (task_at t) a t.n x h.from h.small h.here) (right _ q h.yes);
+    before = λ y s. wrong _ _ (h.no y s);
+  };
+}
 
 -- Where a walk stops -----------------------------------------------------------------------------------------------------------
 
@@ -129,28 +160,14 @@ module _ {size k : ℕ} {ks es ds : List ℕ} {p lct : ℕ} (c : ConflictExplain
   abbrev starts_by : Each (λ t. get_or es t 0 ≤ lct) ks
   starts_by x s = omega (arith, c.white.ends x s)
 
-  -- a task that starts at lct and lasts nothing changes no test
-  pub overload_walk : Walk (Precedes es lct lct 0) ks es ds p 0
-  overload_walk = record {
-    known = c.white.known;
-    total = c.white.total;
-    fits = λ x s. omega (arith, starts_by x s, c.fits);
-    stops = record { place = c.overloads.place; small = c.overloads.small; holds = omega (arith, c.overloads.holds, starts_by c.overloads.place c.overloads.small) };
-  }
+  pub overload_walk : Walk (Overloads es lct) ks es ds p 0
+  overload_walk = record { known = c.white.known; total = c.white.total; fits = λ x s. omega (arith, starts_by x s, c.fits); stops = c.overloads }
 
 module _ {white : ℕ → Bool} {task : ℕ → ℕ} {a n size k p lct x q : ℕ} {es ds : List ℕ} (c : ConflictExplainable size k (between white task a n) es ds p lct)
-    (s : StopsAt white task (Precedes es lct lct 0) ds a n x q) where
-  pub overload_stops : StopsAt white task (Overloads es lct) ds a n x q
-  overload_stops = record {
-    from = s.from;
-    small = s.small;
-    here = s.here;
-    first = first_same (Precedes es lct lct 0) (Overloads es lct) ds (between white task a n) _ q (λ y r t h. omega (arith, starts_by c y t)) (λ y r t h. omega (arith, starts_by c y t)) s.first;
-  }
-
+    (s : StopsAt white task (Overloads es lct) ds a n x q) where
   pub overflow : {e : ℕ} → e ≡ get_or es (task x) 0 → Overflow lct q e
   overflow z =
-      let over : lct < get_or es (task x) 0 + q = rw (task_is s) at overload_stops.first.holds in
+      let over : lct < get_or es (task x) 0 + q = rw (task_is s) at s.first.holds in
       let less : q ≤ p = lasts_less s c.white.total in
       record {
         over = omega arith;

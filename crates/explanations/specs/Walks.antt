@@ -4,7 +4,7 @@
 use Rattle.std.specs.Prelude.{◌≡◌, Bool, true, List, [], ◌∷◌, ℕ, ◌+◌, ◌-◌, ◌^◌, ◌≤◌, ◌<◌, min, length, get_or, drop}
 use Rattle.integers.specs.Limits.{TASKS}
 use Rattle.trees.specs.Searches.{theta_of}
-use Rattle.trees.specs.ArraySearches.{white_in, task_in, Next}
+use Rattle.trees.specs.ArraySearches.{Next}
 
 -- how long the tasks ks last together
 unfoldable pub lasts : List ℕ → List ℕ → ℕ
@@ -69,10 +69,6 @@ module _ (white : ℕ → Bool) (task : ℕ → ℕ) where
     pub small : x < n
     pub here : white x ≡ true
     pub first : First P ds (between a n) (length (between a x)) left
-
--- the list by the words of a tree and the task of each leaf
-abbrev pub theta_between : List ℕ → ℕ → List ℕ → ℕ → ℕ → List ℕ
-theta_between words inner tasks a b = between (white_in words inner) (task_in tasks) a b
 
 -- What is asked of the input --------------------------------------------------------------------------------------------------
 

@@ -2,4 +2,5 @@
 #![tactic(auto)]
 
 pub mod explanations;
+pub mod theta;
 mod walks;

@@ -1,11 +1,10 @@
 -- What is known of a schedule where its record and its ranges have passed.
-use mathlib.Core.Path.{◌≡◌, refl, ap, subst}
+use mathlib.Core.Path.{◌≡◌, refl, ap}
 use mathlib.Core.List.{List}
 use Prim.Native.Nat.{ℕ, ◌+◌, ◌≤◌, ◌<◌}
 use native.Mathlib.Omega.{arith}
 use lib.IntN.{ℤ, pos}
-use lib.ListN.{length, get_or, take, length-take}
-use lib.Seq.{get_or-take}
+use lib.ListN.{length, get_or}
 use Rattle.integers.specs.FilledLists.{filled, no_tasks}
 use Rattle.integers.specs.Limits.{START, DURATIONS}
 use Rattle.integers.specs.Moments.{moment, zero_at, Above, moment_at}
@@ -41,13 +40,8 @@ module _ (r : DisjunctivePropagator) (es ls : List ℤ) (a : AcceptedInput r es 
   pub short : (k : ℕ) → k < length es → get_or r.durations k 0 ≤ DURATIONS
   short k q = omega (arith, total_part (λ k. get_or r.durations k 0) r.count k (omega (arith, a.counts.earliest)), a.lawful.sum)
 
-  pub traversable : (order : List ℕ) → take (length es) order ≡ order_of es → Traversable order es r.durations
-  traversable order e = record {
-    sortable = sortable;
-    durations = short;
-    long = omega (arith, length-take (length es) order, ap length e, order_length es);
-    tasks = λ t q. (let z = (ordered es).task t q in rw (← e, get_or-take (length es) order t 0 q) at z);
-  }
+  pub traversable : {order : List ℕ} → order ≡ order_of es → Traversable order es r.durations
+  traversable e = record { sortable = sortable; durations = short; tasks = λ t q. rw e ((ordered es).task t (omega (arith, ap length e, order_length es))) }
 
   -- the array of moments has those of the starts
   module _ (starts : List ℕ) (s : starts ≡ filled (moment_at es) (length es) no_tasks) where
@@ -59,9 +53,8 @@ module _ (r : DisjunctivePropagator) (es ls : List ℤ) (a : AcceptedInput r es 
       lasts = λ k q. refl;
     }
 
-    pub by_moments : (order : List ℕ) → take (length es) order ≡ order_of es → Ordered r.count (λ t. get_or order t 0) (index (order_of es)) (λ j k. get_or starts j 0 ≤ get_or starts k 0)
-    by_moments order e = subst (λ (n : ℕ). Ordered n (λ t. get_or order t 0) (index (order_of es)) (λ j k. get_or starts j 0 ≤ get_or starts k 0)) a.counts.earliest
-        (ordered_moments es order starts e (key_at es starts sortable.few s))
+    pub by_moments : {order : List ℕ} → order ≡ order_of es → Ordered (length order) (λ t. get_or order t 0) (index (order_of es)) (λ j k. get_or starts j 0 ≤ get_or starts k 0)
+    by_moments e = rw (e, order_length es) (ordered_moments es starts (key_at es starts sortable.few s))
 
     -- which are far from 0 and from the largest u32
     pub moment_low : (k : ℕ) → k < r.count → zero_at ≤ START + get_or starts k 0

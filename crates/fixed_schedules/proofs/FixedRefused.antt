@@ -1,17 +1,21 @@
 -- What refuses a fixed schedule: what holds where nothing does, the sole ground for each number, and the same where other tests follow.
 use mathlib.Core.Path.{◌≡◌, refl, sym, ◌∙◌}
-use mathlib.Core.Bool.{Bool, true, false, not, ◌&&◌}
+use mathlib.Core.Bool.{Bool, true, false, ◌&&◌}
 use mathlib.Core.Logic.{◌↔◌}
 use mathlib.Core.List.{List, [], ◌∷◌, ◌++◌}
 use Prim.Native.Nat.{ℕ, ◌-◌, ◌<◌}
 use native.Mathlib.Omega.{arith}
 use lib.IntN.{ℤ, pos}
 use lib.ListN.{length, get_or, take}
-use borrow.Author.Tests.{not-true, not-false}
+use Rattle.std.specs.Prelude.{Ok, Err}
+use Rattle.integers.specs.declared.refused.Refusal.{Refusal}
+use Rattle.integers.specs.declared.refused.Refusal.TheVariants.{Schedule}
+use Rattle.integers.specs.Refused.{number_of}
 use Rattle.integers.specs.Limits.{TASKS}
 use Rattle.integers.specs.Tests.{Test, test, all_below, refusal, AllPassed}
 use Rattle.integers.proofs.Bools.{and_yes, and_left, and_right}
-use Rattle.integers.proofs.Tests.{all_at, all_show, unused, accepts, accepted, refusal_none, not_given, first_refuses}
+use Rattle.integers.proofs.RefusalNumbers.{never_zero}
+use Rattle.integers.proofs.Tests.{all_at, all_show, unused, accepts, accepted, first_refuses}
 use Rattle.integers.proofs.WholeNumbers.{eq_z_same, same_eq_z}
 use Rattle.records.proofs.TestsInOrder.{as_facts, as_tests}
 use Rattle.records.specs.declared.record.DisjunctivePropagator.{DisjunctivePropagator}
@@ -20,14 +24,9 @@ use Rattle.records.specs.Refusals.{range_tests, range_number, CountsFit, StartsF
 use Rattle.records.proofs.LastTests.{tests_first, last_refuses, last_passes}
 use Rattle.records.proofs.RefusedRuns.{passed_ranges, accepted_ranges, range_20, range_10, range_3, range_4, range_holds, range_many}
 use Rattle.fixed_schedules.specs.FixedSchedules.{one_start_at, all_apart, fixed_tests, fixed_number, order_of, Fixed, AcceptedFixed}
-use Rattle.fixed_schedules.specs.declared.refusals.FixedOrder.{FixedOrder}
 use Rattle.fixed_schedules.specs.Neighbours.{Sortable, Traversable, neighbours_are_apart, Tested}
 use Rattle.fixed_schedules.proofs.Neighbours.{apart_is, neighbours_are}
 use Rattle.fixed_schedules.proofs.AcceptedSchedules.{sortable, lasting, traversable}
-
--- a schedule that a number refuses may have any order
-pub tested_not : {es : List ℤ} {m n : ℕ} {r : FixedOrder} → r.number ≡ n → (n ≡ 0 → ⊥) → n ≡ m → Tested es m r
-tested_not e not z = record { number = e ∙ z; order = λ y. absurd (not (z ∙ y)) }
 
 -- the test of 14 as a fact
 module _ (r : DisjunctivePropagator) (es ls : List ℤ) (c : length es ≡ r.count) where
@@ -55,14 +54,14 @@ module _ (r : DisjunctivePropagator) (es ls : List ℤ) where
   pub accepted_fixed : fixed_number r es ls ≡ 0 ↔ AcceptedFixed r es ls
   accepted_fixed = (λ h. passed_fixed.0 (accepted (fixed_tests r es ls) refl h), λ f. accepts (fixed_tests r es ls) (passed_fixed.1 f))
 
--- The number of the record and its ranges goes before; then neighbours in the order of starts decide for all pairs.
-module _ (r : DisjunctivePropagator) (es ls : List ℤ) {m : ℕ} (e : m ≡ range_number r es ls) where
-  pub ranges_refuse : {f : FixedOrder} → (m ≡ 0 → ⊥) → f.number ≡ m → Tested es (fixed_number r es ls) f
-  ranges_refuse not h = tested_not h not (tests_first (range_tests r es ls) e (t14 r es ls ∷ []) not)
+-- The record and its ranges go before; then neighbours in the order of starts decide for all pairs.
+module _ (r : DisjunctivePropagator) (es ls : List ℤ) where
+  pub ranges_refuse : (why : Refusal) → number_of why ≡ range_number r es ls → Tested es (fixed_number r es ls) (Err why)
+  ranges_refuse why e = record { number = tests_first (range_tests r es ls) e (t14 r es ls ∷ []) (never_zero why); order = tt }
 
-  module _ (z : m ≡ 0) where
+  module _ (e : 0 ≡ range_number r es ls) where
     held : AcceptedInput r es ls
-    held = (accepted_ranges r es ls).0 (sym e ∙ z)
+    held = (accepted_ranges r es ls).0 (sym e)
 
     pub same_counts : length es ≡ length ls
     same_counts = omega (arith, held.counts.earliest, held.counts.latest)
@@ -70,28 +69,28 @@ module _ (r : DisjunctivePropagator) (es ls : List ℤ) {m : ℕ} (e : m ≡ ran
     pub sorts : Sortable es
     sorts = sortable r es ls held
 
-    by_14 : {f : FixedOrder} → f.number ≡ 14 → (t14 r es ls).passed ≡ false → Tested es (fixed_number r es ls) f
-    by_14 h q = tested_not h (λ y. absurd (omega arith)) (last_refuses (range_tests r es ls) e refl z 14 _ q)
+    by_14 : (t14 r es ls).passed ≡ false → Tested es (fixed_number r es ls) (Err Schedule)
+    by_14 q = record { number = last_refuses (range_tests r es ls) e refl refl 14 _ q; order = tt }
 
     module _ {one : Bool} (o : one ≡ all_below (one_start_at es ls) (length es)) where
-      pub more_starts : {f : FixedOrder} → not one ≡ true → f.number ≡ 14 → Tested es (fixed_number r es ls) f
-      more_starts h q = by_14 q (and_left _ (all_apart r.durations es (length es)) (sym o ∙ not-true one h))
+      pub more_starts : one ≡ false → Tested es (fixed_number r es ls) (Err Schedule)
+      more_starts h = by_14 (and_left _ (all_apart r.durations es (length es)) (sym o ∙ h))
 
       module _ (order : List ℕ) (sorted : take (length es) order ≡ order_of es) where
-        pub traverses : Traversable order es r.durations
-        traverses = traversable r es ls held order sorted
+        pub traverses : Traversable (take (length es) order) es r.durations
+        traverses = traversable r es ls held sorted
 
-        module _ {apart : Bool} (n : apart ≡ all_below (neighbours_are_apart order es r.durations) (length es - 1)) where
+        module _ {apart : Bool} (n : apart ≡ all_below (neighbours_are_apart (take (length es) order) es r.durations) (length (take (length es) order) - 1)) where
           pairs : apart ≡ all_apart r.durations es (length es)
-          pairs = n ∙ neighbours_are r.durations es order sorted (lasting r es ls held)
+          pairs = n ∙ neighbours_are r.durations es sorted (lasting r es ls held)
 
-          pub overlapping : {f : FixedOrder} → not apart ≡ true → f.number ≡ 14 → Tested es (fixed_number r es ls) f
-          overlapping h q = by_14 q (and_right (all_below (one_start_at es ls) (length es)) _ (sym pairs ∙ not-true apart h))
+          pub overlapping : apart ≡ false → Tested es (fixed_number r es ls) (Err Schedule)
+          overlapping h = by_14 (and_right (all_below (one_start_at es ls) (length es)) _ (sym pairs ∙ h))
 
-          pub none_wrong : not one ≡ false → not apart ≡ false → Tested es (fixed_number r es ls) (record { number = 0; order = order })
+          pub none_wrong : one ≡ true → apart ≡ true → Tested es (fixed_number r es ls) (Ok order)
           none_wrong h q = record {
-            number = last_passes (range_tests r es ls) e refl z 14 _ (and_yes _ _ (sym o ∙ not-false one h) (sym pairs ∙ not-false apart q));
-            order = λ _. sorted;
+            number = last_passes (range_tests r es ls) e refl refl 14 _ (and_yes _ _ (sym o ∙ h) (sym pairs ∙ q));
+            order = sorted;
           }
 
 -- The sole ground for each number of a schedule that no later test has: all tests before it pass, and its own fails.
@@ -104,8 +103,11 @@ pub record SoleGrounds (r : DisjunctivePropagator) (es ls : List ℤ) (number : 
 
 -- Other tests follow: what is wrong with the schedule goes before them. Where the schedule passes and one test follows, that one decides.
 module _ (r : DisjunctivePropagator) (es ls : List ℤ) (after : List Test) where
-  pub schedule_refuses : {f : FixedOrder} → Tested es (fixed_number r es ls) f → (f.number ≡ 0 → ⊥) → Tested es (refusal (fixed_tests r es ls ++ after)) f
-  schedule_refuses s not = tested_not refl not (tests_first (fixed_tests r es ls) s.number after not)
+  pub schedule_first : (why : Refusal) → Tested es (fixed_number r es ls) (Err why) → number_of why ≡ refusal (fixed_tests r es ls ++ after)
+  schedule_first why s = tests_first (fixed_tests r es ls) s.number after (never_zero why)
+
+  pub schedule_refuses : (why : Refusal) → Tested es (fixed_number r es ls) (Err why) → Tested es (refusal (fixed_tests r es ls ++ after)) (Err why)
+  schedule_refuses why s = record { number = schedule_first why s; order = tt }
 
   pub fixed_grounds : unused after 20 ≡ true → unused after 10 ≡ true → unused after 3 ≡ true → unused after 4 ≡ true → unused after 14 ≡ true
       → SoleGrounds r es ls (refusal (fixed_tests r es ls ++ after))
@@ -117,22 +119,18 @@ module _ (r : DisjunctivePropagator) (es ls : List ℤ) (after : List Test) wher
     refused_14 = range_holds r es ls (t14 r es ls ∷ after) refl (λ n. first_refuses (t14 r es ls) after (fixed_is r es ls n.earliest) u14);
   }
 
-module _ (r : DisjunctivePropagator) (es ls : List ℤ) {f : FixedOrder} (s : Tested es (fixed_number r es ls) f) (n : ℕ) (p : Bool) where
-  pub number_first : (f.number ≡ 0 → ⊥) → f.number ≡ refusal (fixed_tests r es ls ++ (test n p ∷ []))
-  number_first not = tests_first (fixed_tests r es ls) s.number (test n p ∷ []) not
+module _ (r : DisjunctivePropagator) (es ls : List ℤ) {order : List ℕ} (s : Tested es (fixed_number r es ls) (Ok order)) (n : ℕ) (p : Bool) where
+  pub number_refuses : p ≡ false → n ≡ refusal (fixed_tests r es ls ++ (test n p ∷ []))
+  number_refuses h = last_refuses (fixed_tests r es ls) s.number refl refl n p h
 
-  module _ (z : f.number ≡ 0) where
-    pub number_refuses : p ≡ false → n ≡ refusal (fixed_tests r es ls ++ (test n p ∷ []))
-    number_refuses h = last_refuses (fixed_tests r es ls) s.number refl z n p h
+  pub number_passes : p ≡ true → 0 ≡ refusal (fixed_tests r es ls ++ (test n p ∷ []))
+  number_passes h = last_passes (fixed_tests r es ls) s.number refl refl n p h
 
-    pub number_passes : p ≡ true → 0 ≡ refusal (fixed_tests r es ls ++ (test n p ∷ []))
-    number_passes h = last_passes (fixed_tests r es ls) s.number refl z n p h
+  pub refused_after : (why : Refusal) → p ≡ false → number_of why ≡ n → Tested es (refusal (fixed_tests r es ls ++ (test n p ∷ []))) (Err why)
+  refused_after why h e = record { number = e ∙ number_refuses h; order = tt }
 
-    pub refused_after : {g : FixedOrder} → p ≡ false → g.number ≡ n → unused [] n ≡ true → Tested es (refusal (fixed_tests r es ls ++ (test n p ∷ []))) g
-    refused_after h e u = tested_not e (λ y. not_given [] n u (refusal_none ∙ sym y)) (number_refuses h)
-
-    pub passed_after : p ≡ true → Tested es (refusal (fixed_tests r es ls ++ (test n p ∷ []))) f
-    passed_after h = record { number = z ∙ number_passes h; order = λ _. s.order (sym s.number ∙ z) }
+  pub passed_after : p ≡ true → Tested es (refusal (fixed_tests r es ls ++ (test n p ∷ []))) (Ok order)
+  passed_after h = record { number = number_passes h; order = s.order }
 
 -- more ranges than any record has tasks are refused by the number that refuses none, whatever tests follow
 pub fixed_many : (r : DisjunctivePropagator) (es ls : List ℤ) (after after' : List Test) → TASKS < length es

@@ -9,17 +9,16 @@ use native.Mathlib.Decide.{dec_lt, ℕ_discrete}
 use lib.Dec.{eqb}
 use lib.IntN.{ℤ, pos}
 use lib.Signed.{le_z, ◌≤ℤ◌}
-use lib.ListN.{length, get_or, take}
-use lib.Seq.{get_or-take}
+use lib.ListN.{length, get_or}
 use borrow.Author.Tests.{eqb-true, eq-eqb}
 use Rattle.integers.specs.Orders.{index}
 use Rattle.integers.specs.Tests.{all_below}
 use Rattle.integers.proofs.Bools.{same_tests, or_true, or_right}
 use Rattle.integers.proofs.Ints.{ints, up, dn, sumℤ, le_z_true, le_le_z}
-use Rattle.integers.proofs.Tests.{all_at, all_show, all_ext}
+use Rattle.integers.proofs.Tests.{all_at, all_show}
 use Rattle.fixed_schedules.specs.FixedSchedules.{start_at, end_at, apart_at, all_apart, order_of}
 use Rattle.fixed_schedules.specs.Neighbours.{neighbours_are_apart}
-use Rattle.fixed_schedules.proofs.ScheduleOrder.{ordered}
+use Rattle.fixed_schedules.proofs.ScheduleOrder.{ordered, order_length}
 
 or_left : (a b : Bool) → a ≡ true → a || b ≡ true
 or_left a b p = rw p
@@ -86,13 +85,6 @@ module _ (ds : List ℕ) (es : List ℤ) where
   pub same_test : ((k : ℕ) → k < length es → 1 ≤ get_or ds k 0) → all_below (neighbours_are_apart (order_of es) es ds) (length es - 1) ≡ all_apart ds es (length es)
   same_test lasts = let n = length es in same_tests _ _ (λ h. (apart_is n).1 (neighbours_then_all h)) (λ h. all_then_neighbours lasts ((apart_is n).0 h))
 
-  -- the same of an array that has the order in its first places
-  pub neighbours_are : (order : List ℕ) → take (length es) order ≡ order_of es → ((k : ℕ) → k < length es → 1 ≤ get_or ds k 0)
-      → all_below (neighbours_are_apart order es ds) (length es - 1) ≡ all_apart ds es (length es)
-  neighbours_are order e lasts = all_ext (neighbours_are_apart order es ds) (neighbours_are_apart (order_of es) es ds) (length es - 1) agree ∙ same_test lasts
-    where
-      here : (t : ℕ) → t < length es → get_or order t 0 ≡ get_or (order_of es) t 0
-      here t q = sym (get_or-take (length es) order t 0 q) ∙ ap (λ (l : List ℕ). get_or l t 0) e
-
-      agree : (t : ℕ) → t < length es - 1 → neighbours_are_apart order es ds t ≡ neighbours_are_apart (order_of es) es ds t
-      agree t q = rw (here t (omega arith), here (t + 1) (omega arith))
+  pub neighbours_are : {order : List ℕ} → order ≡ order_of es → ((k : ℕ) → k < length es → 1 ≤ get_or ds k 0)
+      → all_below (neighbours_are_apart order es ds) (length order - 1) ≡ all_apart ds es (length es)
+  neighbours_are e lasts = rw (e, order_length es) (same_test lasts)

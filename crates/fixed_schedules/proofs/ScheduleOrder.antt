@@ -7,17 +7,18 @@ use native.Mathlib.Omega.{arith}
 use lib.Dec.{leb}
 use lib.IntN.{ℤ, pos, ◌+ℤ◌}
 use lib.Signed.{le_z, ◌≤ℤ◌}
-use lib.ListN.{length, get_or, take}
-use lib.Seq.{get_or-take}
+use lib.ListN.{length, get_or, take, length-take}
 use borrow.Author.Tests.{le-leb, leb-true}
 use Rattle.integers.specs.Limits.{TASKS, START}
 use Rattle.integers.specs.FilledLists.{filled, no_tasks}
-use Rattle.integers.specs.Moments.{moment, instant, zero_at, Above, moment_at}
+use Rattle.integers.specs.Moments.{moment, zero_at, Above, moment_at}
 use Rattle.integers.specs.Orders.{index, numbers, Permutes, Ordered}
 use Rattle.integers.proofs.Bools.{same_tests}
 use Rattle.integers.proofs.FilledLists.{filled_at}
-use Rattle.integers.proofs.Ints.{ints, up, dn, up_neg, dn_neg, le_z_true, le_le_z}
-use Rattle.integers.proofs.MomentSums.{mono, reflect, plus, plus_above, above_show, at_moment, instant_moment}
+use mir.Syntax.{w32}
+use mir.Val.{to_z, of_z}
+use Rattle.integers.proofs.Ints.{ints, up, dn, up_neg, dn_neg, le_z_true, le_le_z, fits_show, back}
+use Rattle.integers.proofs.MomentSums.{mono, reflect, plus, plus_above, above_show, at_moment}
 use Rattle.integers.proofs.Permutations.{permuted, numbers_permute, numbers_length}
 use Rattle.integers.proofs.StableSort.{sort_length, sort_permutes, sort_ordered}
 use Rattle.sorts.specs.Orders.{SortedBy, by_key}
@@ -39,16 +40,16 @@ pub start_moment : (z : ℤ) → StartFits z → moment zero_at z ≤ zero_at + 
 unfolding up dn
 start_moment z h = omega (ints, h.high, at_moment zero_at z (start_above z h))
 
+-- and it is what a machine word of it holds
+pub start_word : (z : ℤ) → StartFits z → to_z w32 (of_z w32 z) ≡ z
+unfolding up dn
+start_word z h = back (fits_show w32 z (omega (ints, h.high)) (omega (ints, h.low, up_neg (pos START), dn_neg (pos START))))
+
 -- a task ends by the start of another: the test in moments, and in whole numbers
 pub ends_by_test : (a b : ℤ) (d : ℕ) → StartFits a → StartFits b → leb (moment zero_at a + d) (moment zero_at b) ≡ le_z (a +ℤ pos d) b
 ends_by_test a b d p q =
     ap (λ (m : ℕ). leb m (moment zero_at b)) (sym (plus zero_at a d (start_above a p)))
     ∙ moment_test (a +ℤ pos d) b (plus_above zero_at a d (start_above a p)) (start_above b q)
-
--- the end, from the start's moment
-pub end_instant : (z : ℤ) (d m : ℕ) → StartFits z → m ≡ moment zero_at z → instant zero_at (m + d) ≡ z +ℤ pos d
-end_instant z d m h e =
-    ap (λ (k : ℕ). instant zero_at (k + d)) e ∙ ap (instant zero_at) (sym (plus zero_at z d (start_above z h))) ∙ instant_moment zero_at (z +ℤ pos d) (plus_above zero_at z d (start_above z h))
 
 -- ---- the sort
 module _ (es : List ℤ) where
@@ -61,6 +62,13 @@ module _ (es : List ℤ) where
 
   pub order_length : length (order_of es) ≡ length es
   order_length = sort_length (by_start es) (numbers 0 (length es)) ∙ numbers_length 0 (length es)
+
+  -- an array that begins with the order is long enough
+  pub front_length : (order : List ℕ) → take (length es) order ≡ order_of es → length es ≡ length (take (length es) order)
+  front_length order e = omega (arith, ap length e, order_length)
+
+  pub front_within : (order : List ℕ) → take (length es) order ≡ order_of es → length es ≤ length order
+  front_within order e = omega (arith, front_length order e, length-take (length es) order)
 
   pub order_permutes : Permutes (length es) (order_of es)
   order_permutes = sort_permutes (by_start es) (length es) (numbers 0 (length es)) (numbers_permute (length es))
@@ -80,23 +88,18 @@ module _ (es : List ℤ) where
       ap₂ leb (key_at keys h.few e j p) (key_at keys h.few e k q)
       ∙ moment_test (start_at es j) (start_at es k) (start_above (start_at es j) (h.starts j p)) (start_above (start_at es k) (h.starts k q)))
 
-  -- an array that has the order in its first places has the tasks by the moments of their starts
-  pub ordered_moments : (order keys : List ℕ) → take (length es) order ≡ order_of es → ((k : ℕ) → k < length es → get_or keys k 0 ≡ moment_at es k)
-      → Ordered (length es) (λ t. get_or order t 0) (index (order_of es)) (λ j k. get_or keys j 0 ≤ get_or keys k 0)
-  ordered_moments order keys e at = record {
-    task = λ t q. omega (arith, here t q, o.task t q);
+  -- and they have the tasks by the moments of their starts
+  pub ordered_moments : (keys : List ℕ) → ((k : ℕ) → k < length es → get_or keys k 0 ≡ moment_at es k)
+      → Ordered (length es) (λ t. get_or (order_of es) t 0) (index (order_of es)) (λ j k. get_or keys j 0 ≤ get_or keys k 0)
+  ordered_moments keys at = let o = ordered in record {
+    task = o.task;
     placed = o.placed;
-    there = λ k q. here (index (order_of es) k) (o.placed k q) ∙ o.there k q;
-    back = λ t q. ap (index (order_of es)) (here t q) ∙ o.back t q;
-    sorted = λ s t p q. (let r : s < length es = omega arith in
-        omega (arith, key s r, key t q, mono zero_at (start_at es (get_or (order_of es) s 0)) (start_at es (get_or (order_of es) t 0)) (o.sorted s t p q)));
+    there = o.there;
+    back = o.back;
+    sorted = λ s t p q. omega (
+      arith,
+      at (get_or (order_of es) s 0) (o.task s (omega arith)),
+      at (get_or (order_of es) t 0) (o.task t q),
+      mono zero_at (start_at es (get_or (order_of es) s 0)) (start_at es (get_or (order_of es) t 0)) (o.sorted s t p q),
+    );
   }
-    where
-      o : Ordered (length es) (λ t. get_or (order_of es) t 0) (index (order_of es)) (λ j k. start_at es j ≤ℤ start_at es k)
-      o = ordered
-
-      here : (t : ℕ) → t < length es → get_or order t 0 ≡ get_or (order_of es) t 0
-      here t q = sym (get_or-take (length es) order t 0 q) ∙ ap (λ (l : List ℕ). get_or l t 0) e
-
-      key : (t : ℕ) → t < length es → get_or keys (get_or order t 0) 0 ≡ moment_at es (get_or (order_of es) t 0)
-      key t q = ap (λ (k : ℕ). get_or keys k 0) (here t q) ∙ at (get_or (order_of es) t 0) (o.task t q)

@@ -6,7 +6,6 @@ ghost use Rattle.fixed_schedules.specs.Neighbours.{Sortable, Traversable, neighb
 
 use integers::limits::TASKS;
 use integers::moments::{moment_of, moments_of};
-use records::refusals::ranges_fit;
 use sorts::sort_numbers;
 
 // Whether every range holds one start: no earliest start is above its latest, nor the latest above the earliest.
@@ -14,14 +13,11 @@ pub fn one_start(earliest: &[i32], latest: &[i32]) -> bool
     requires { length earliest.now ≡ length latest.now }
     ensures { result ≡ all_below (one_start_at earliest.now latest.now) (length earliest.now) }
 {
-    if !ranges_fit(earliest, latest) {
-        return false;
-    }
-    ranges_fit(latest, earliest)
+    earliest == latest
 }
 
-// The tasks by start, least first.
-pub fn order_of(earliest: &[i32]) -> [usize; TASKS]
+// The tasks by start, least first, in the first places.
+pub fn tasks_by_start(earliest: &[i32]) -> [usize; TASKS]
     requires { Sortable earliest.now }
     ensures { take (length earliest.now) result ≡ order_of earliest.now }
 {
@@ -34,20 +30,18 @@ pub fn order_of(earliest: &[i32]) -> [usize; TASKS]
 }
 
 // Whether each task of an order ends by the start of the next.
-pub fn neighbours_apart(order: &[usize; TASKS], earliest: &[i32], durations: &[u32; TASKS]) -> bool
+pub fn neighbours_apart(order: &[usize], earliest: &[i32], durations: &[u32; TASKS]) -> bool
     requires { Traversable order.now earliest.now durations.now }
     ensures { result ≡ all_below (neighbours_are_apart order.now earliest.now durations.now)
-        (length earliest.now - 1) }
+        (length order.now - 1) }
 {
-    let mut i = 0;
-    while i + 1 < earliest.len() {
-        let task = order[i];
-        let next = order[i + 1];
+    for neighbours in order.windows(2) {
+        let task = neighbours[0];
+        let next = neighbours[1];
         let end = moment_of(earliest[task]) + durations[task];
         if end > moment_of(earliest[next]) {
             return false;
         }
-        i += 1;
     }
     true
 }

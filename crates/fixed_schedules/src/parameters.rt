@@ -2,18 +2,18 @@
 ghost use Rattle.std.specs.Prelude.{◌≡◌};
 ghost use Rattle.fixed_schedules.specs.Parameters.{moment_within, length_within};
 
-use records::refusals::within;
+use integers::limits::{LENGTH, MOMENT};
 
 // Whether a moment is within the limits.
 pub fn moment_fits(t: i32) -> bool
     ensures { result ≡ moment_within t }
 {
-    within(t, -integers::limits::MOMENT, integers::limits::MOMENT)
+    (-MOMENT..=MOMENT).contains(&t)
 }
 
 // Whether a length of time is.
 pub fn length_fits(d: i32) -> bool
     ensures { result ≡ length_within d }
 {
-    within(d, 1, integers::limits::LENGTH)
+    (1..=LENGTH).contains(&d)
 }

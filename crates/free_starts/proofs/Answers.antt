@@ -5,9 +5,12 @@ use mathlib.Core.List.{List, []}
 use Prim.Native.Nat.{ℕ, ◌+◌, ◌≤◌, ◌<◌}
 use native.Mathlib.Omega.{arith}
 use lib.IntN.{ℤ, pos}
-use lib.ListN.{length}
+use lib.ListN.{length, take}
 use lib.Signed.{◌≤ℤ◌}
+use Rattle.std.specs.Prelude.{Result, Ok, Err}
+use Rattle.integers.specs.declared.refused.Refusal.{Refusal}
 use Rattle.integers.specs.Answers.{refused_by}
+use Rattle.integers.proofs.RefusalNumbers.{never_zero}
 use Rattle.integers.specs.Limits.{TASKS}
 use Rattle.integers.specs.FilledLists.{filled, no_tasks}
 use Rattle.integers.specs.Moments.{moment, instant, zero_at, Above, moment_at}
@@ -19,12 +22,10 @@ use Rattle.records.specs.declared.record.DisjunctivePropagator.{DisjunctivePropa
 use Rattle.records.specs.Records.{duration_for}
 use Rattle.fixed_schedules.specs.FixedSchedules.{order_of, tasks_on, AcceptedFixed}
 use Rattle.fixed_schedules.specs.Neighbours.{in_moments, Tested}
-use Rattle.fixed_schedules.specs.declared.refusals.FixedOrder.{FixedOrder}
 use Rattle.fixed_schedules.specs.Parameters.{MomentFits, LengthFits}
 use Rattle.fixed_schedules.proofs.AcceptedSchedules.{AtMoments, input_of, short, at_moments, by_moments, moment_high}
+use Rattle.fixed_schedules.proofs.ScheduleOrder.{order_length, front_within}
 use Rattle.fixed_schedules.proofs.ParameterMoments.{parameter_above, parameter_moment}
-use Rattle.free_starts.specs.declared.FreeStart.{FreeStart}
-use Rattle.free_starts.specs.declared.FreeStart.TheVariants.{At, Refused}
 use Rattle.free_starts.specs.Numbers.{free_start_numbers}
 use Rattle.free_starts.specs.FreeStarts.{LATEST, Free, EarliestFree, free_number, FreeStartAnswered}
 use Rattle.free_starts.specs.StartMoments.{Searchable}
@@ -63,57 +64,67 @@ module _ (o : ℕ) (J : Tasks whole) (M : Tasks natural) (at_moments : AtMoments
         e.none_before (moment o u) (mono o t u h) (omega (arith, mono< o u (instant o m) q (instant_above o m) l, moment_instant o m)) (free_down d u q f));
   }
 
--- ---- a call by the number and the order that its refusal answers; u and v are its moment and length as words
-module _ (r : DisjunctivePropagator) (es ls : List ℤ) (u v : ℤ) {f : FixedOrder} (o : Tested es (free_number r es ls u v) f) where
-  pub refused : (t d : ℤ) (m : ℕ) → m ≡ f.number → (m ≡ 0 → ⊥) → u ≡ t → v ≡ d → FreeStartAnswered r es ls t d (Refused m)
-  refused t d m e not p q =
-      let n : m ≡ free_number r es ls t d = rw (p, q) at (e ∙ o.number) in
-      record { refused = λ _. ap refused_by n; found = λ z. absurd (not (n ∙ z)) }
+-- ---- a call by what its tests answer
+module _ (r : DisjunctivePropagator) (es ls : List ℤ) (t d : ℤ) where
+  pub refused : (why : Refusal) → Tested es (free_number r es ls t d) (Err why) → FreeStartAnswered r es ls t d (Err why)
+  refused why o = record { refused = λ _. ap refused_by o.number; found = λ z. absurd (never_zero why (o.number ∙ z)) }
 
-  module _ (z : f.number ≡ 0) where
-    held : AcceptedFixed r es ls × (LengthFits v × MomentFits u)
-    held = (accepted_call r es ls u v).0 (sym o.number ∙ z)
+  module _ (order : List ℕ) (o : Tested es (free_number r es ls t d) (Ok order)) where
+    held : AcceptedFixed r es ls × (LengthFits d × MomentFits t)
+    held = (accepted_call r es ls t d).0 (sym o.number)
 
     pub few_starts : length es ≤ TASKS
     few_starts = omega (arith, held.0.counts.earliest, held.0.lawful.few)
 
-    pub lasts : pos 0 ≤ℤ v
+    pub lasts : pos 0 ≤ℤ d
     unfolding up dn
     lasts = omega (ints, held.1.0.low)
 
-    module _ (starts : List ℕ) (s : starts ≡ filled (moment_at es) (length es) no_tasks) (from lasting : ℕ) (m : from ≡ moment zero_at u) (p : pos lasting ≡ v) where
+    -- the tasks by start
+    sorted : take r.count order ≡ order_of es
+    sorted = ap (λ (n : ℕ). take n order) (sym held.0.counts.earliest) ∙ o.order
+
+    pub within : r.count ≤ length order
+    within = omega (arith, held.0.counts.earliest, front_within es order o.order)
+
+    pub fits : r.count ≡ length (take r.count order)
+    fits = omega (arith, held.0.counts.earliest, ap length sorted, order_length es)
+
+    module _ (starts : List ℕ) (s : starts ≡ filled (moment_at es) (length es) no_tasks) (from lasting : ℕ) (m : from ≡ moment zero_at t) (p : pos lasting ≡ d) where
       -- the pass may start
-      pub searchable : Searchable r.count f.order starts r.durations from lasting
+      pub searchable : Searchable (take r.count order) starts r.durations from lasting
       unfolding up dn
       searchable = record {
-        few = held.0.lawful.few;
+        few = omega (arith, fits, held.0.lawful.few);
         place = index (order_of es);
-        by_start = by_moments r es ls (input_of held.0) starts s f.order (o.order (sym o.number ∙ z));
-        ends = λ k l. omega (arith, moment_high r es ls (input_of held.0) starts s k l, short r es ls (input_of held.0) k (omega (arith, held.0.counts.earliest)));
-        moment = omega (arith, parameter_moment u held.1.1);
+        by_start = by_moments r es ls (input_of held.0) starts s sorted;
+        ends = λ k l. omega (
+          arith,
+          moment_high r es ls (input_of held.0) starts s k (omega (arith, fits)),
+          short r es ls (input_of held.0) k (omega (arith, fits, held.0.counts.earliest)),
+        );
+        moment = omega (arith, parameter_moment t held.1.1);
         duration = omega (ints, held.1.0.high);
       }
 
       -- and what it finds is the answer
-      pub found : (t d x : ℤ) {y : ℤ} (free : ℕ) → u ≡ t → v ≡ d → EarliestFree (in_moments r.count starts r.durations) from lasting free → free ≤ zero_at + LATEST
-          → y ≡ instant zero_at free
-          → x ≡ y
-          → FreeStartAnswered r es ls t d (At x)
+      pub found : (x : ℤ) (free : ℕ) → EarliestFree (in_moments (length (take r.count order)) starts r.durations) from lasting free → free ≤ zero_at + LATEST → x ≡ instant zero_at free
+          → FreeStartAnswered r es ls t d (Ok x)
       unfolding up dn
-      found t d x free i j e l g h = rw (← i, ← j) (record {
-        refused = λ not. absurd (not (sym o.number ∙ z));
+      found x free e l g = record {
+        refused = λ not. absurd (not (sym o.number));
         found = λ _. record {
           start = instant zero_at free;
-          answer = ap (λ (s : ℤ). free_start_numbers (At s)) (h ∙ g);
-          earliest = subst (λ (n : ℕ). EarliestFree (tasks_on r es ls) u n (instant zero_at free)) (ap duration_for p)
-              (earliest_up zero_at (tasks_on r es ls) (in_moments r.count starts r.durations) (at_moments r es ls (input_of held.0) starts s) u lasting free
-              (parameter_above u held.1.1) (rw m at e));
+          answer = ap (λ (s : ℤ). free_start_numbers (Ok s)) g;
+          earliest = subst (λ (n : ℕ). EarliestFree (tasks_on r es ls) t n (instant zero_at free)) (ap duration_for p)
+              (earliest_up zero_at (tasks_on r es ls) (in_moments r.count starts r.durations) (at_moments r es ls (input_of held.0) starts s) t lasting free
+              (parameter_above t held.1.1) (rw (m, ← fits) at e));
           limit = omega (ints, at_moment zero_at (instant zero_at free) (instant_above zero_at free), moment_instant zero_at free);
         };
-      })
+      }
 
 -- too many ranges are refused as none are
-pub too_many : (r : DisjunctivePropagator) (es ls : List ℤ) (t d : ℤ) (x : FreeStart) → TASKS < length es → FreeStartAnswered r [] [] t d x → FreeStartAnswered r es ls t d x
+pub too_many : (r : DisjunctivePropagator) (es ls : List ℤ) (t d : ℤ) (x : Result ℤ Refusal) → TASKS < length es → FreeStartAnswered r [] [] t d x → FreeStartAnswered r es ls t d x
 too_many r es ls t d x many a =
     let (same, not) = free_many r es ls t d many in
     record { refused = λ _. a.refused (λ z. not (sym same ∙ z)) ∙ ap refused_by same; found = λ z. absurd (not z) }

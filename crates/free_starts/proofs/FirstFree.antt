@@ -1,7 +1,7 @@
 -- The pass over the tasks by start. A further task that does not end by the next task's start is free only from that task's end on.
 use mathlib.Core.Path.{◌≡◌}
 use mathlib.Core.Logic.{inl, inr, ⊎_elim}
-use Prim.Native.Nat.{ℕ, ◌+◌, ◌≤◌, ◌<◌}
+use Prim.Native.Nat.{ℕ, ◌+◌, ◌≤◌, ◌<◌, max}
 use native.Mathlib.Omega.{arith}
 use native.Mathlib.Decide.{dec_lt}
 use native.Mathlib.Numerals.{add-one}
@@ -35,6 +35,13 @@ module _ (J : Tasks natural) (at place : ℕ → ℕ) (o : Ordered J.count at pl
     ended = rw (add-one i) (below_suc (λ p. J.earliest (at p) + J.duration (at p) ≤ s) i w.ended h);
     none_before = w.none_before;
   }
+
+  -- the next task does not start late enough, so the further one waits for its end, where that is later
+  pub goes_on : (i s e : ℕ) → i < J.count → Passed J at t d i s → J.earliest (at i) < s + d → e ≡ max s (J.earliest (at i) + J.duration (at i)) → Passed J at t d (i + 1) e
+  goes_on i s e q w h z = elim (dec_lt s (J.earliest (at i) + J.duration (at i))) [
+    | yes l ↦ waits i s e q w h (omega arith) (omega arith)
+    | no l ↦ (let same : e ≡ s = omega arith in rw same (over i s w (omega arith)))
+  ]
 
   -- the further task ends by the next task's start, and so by those of all after it
   pub stops : (i s : ℕ) → i < J.count → Passed J at t d i s → s + d ≤ J.earliest (at i) → EarliestFree J t d s

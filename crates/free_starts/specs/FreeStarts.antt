@@ -1,6 +1,7 @@
 -- The earliest free start beside a fixed schedule: what it is, what refuses the call, and what the call answers.
-use Rattle.std.specs.Prelude.{◌≡◌, ◌&&◌, List, [], ◌∷◌, ◌++◌, ◌⊎◌, ℕ, ◌+◌, ◌<◌, ℤ, pos, ◌≤ℤ◌}
+use Rattle.std.specs.Prelude.{◌≡◌, ◌&&◌, List, [], ◌∷◌, ◌++◌, ◌⊎◌, ℕ, ◌+◌, ◌<◌, ℤ, pos, ◌≤ℤ◌, Result}
 use Rattle.integers.specs.Refused as refused
+use Rattle.integers.specs.declared.refused.Refusal.{Refusal}
 use Rattle.integers.specs.Answers.{answered, refused_by}
 use Rattle.integers.specs.Limits.{START, DURATIONS}
 use Rattle.integers.specs.Tests.{Test, test, refusal}
@@ -9,7 +10,6 @@ use Rattle.records.specs.declared.record.DisjunctivePropagator.{DisjunctivePropa
 use Rattle.records.specs.Records.{duration_for}
 use Rattle.fixed_schedules.specs.FixedSchedules.{tasks_on, fixed_tests}
 use Rattle.fixed_schedules.specs.Parameters.{moment_within, length_within}
-use Rattle.free_starts.specs.declared.FreeStart.{FreeStart}
 use Rattle.free_starts.specs.Numbers.{free_start_numbers}
 
 module _ {C : Clock} (J : Tasks C) where
@@ -35,13 +35,13 @@ abbrev pub LATEST : ℕ
 LATEST = START + DURATIONS
 
 -- The answer is a start, the earliest free one, over all whole numbers.
-pub record FreeStartFound (r : DisjunctivePropagator) (es ls : List ℤ) (t d : ℤ) (a : FreeStart) : Type 0 where
+pub record FreeStartFound (r : DisjunctivePropagator) (es ls : List ℤ) (t d : ℤ) (a : Result ℤ Refusal) : Type 0 where
   pub start : ℤ
   pub answer : free_start_numbers a ≡ answered 0 (start ∷ [])
   pub earliest : EarliestFree (tasks_on r es ls) t (duration_for d) start
   pub limit : start ≤ℤ pos LATEST
 
 -- The first test that fails refuses the call; else there is a free start, and the answer is the earliest.
-pub record FreeStartAnswered (r : DisjunctivePropagator) (es ls : List ℤ) (t d : ℤ) (a : FreeStart) : Type 0 where
+pub record FreeStartAnswered (r : DisjunctivePropagator) (es ls : List ℤ) (t d : ℤ) (a : Result ℤ Refusal) : Type 0 where
   pub refused : (free_number r es ls t d ≡ 0 → ⊥) → free_start_numbers a ≡ refused_by (free_number r es ls t d)
   pub found : free_number r es ls t d ≡ 0 → FreeStartFound r es ls t d a

@@ -8,7 +8,7 @@ use native.Mathlib.Omega.{arith}
 use native.Mathlib.Numerals.{add-one}
 use lib.IntN.{ℤ, pos, negsuc, ◌+ℤ◌}
 use lib.ListN.{length, get_or, take, drop}
-use lib.Seq.{slice-cons, slice_empty}
+use lib.Seq.{drop-cons}
 use lib.Signed.{le_z, lt_z, ◌<ℤ◌}
 use Rattle.integers.proofs.Bools.{bool, clash}
 use Rattle.integers.proofs.Ints.{ints, up, dn, sumℤ, le_le_z}
@@ -16,38 +16,15 @@ use Rattle.holes.specs.Holes.{Ascending, kept, below, above, inserted, rank, ste
 use Rattle.integers.specs.WholeNumbers.{eq_z, has}
 use Rattle.integers.proofs.WholeNumbers.{lt_le_z, lt_lt_z, le_lt_z, eq_z_same, eq_z_other, has_head, has_tail, has_cases, has_none}
 
--- ---- a walk over the first n places of an array
-module _ (l : List ℤ) (n i : ℕ) (small : i < n) (fits : n ≤ length l) where
-  pub here : drop i (take n l) ≡ get_or l i (pos 0) ∷ drop (i + 1) (take n l)
-  here = rw (add-one i, slice-cons i n l (pos 0))
-
-  pub rank_stop : (x : ℤ) → le_z x (get_or l i (pos 0)) ≡ true → rank x (drop i (take n l)) ≡ 0
-  unfolding rank
-  rank_stop x y = rw (here, y)
-
-  pub rank_on : (x : ℤ) → le_z x (get_or l i (pos 0)) ≡ false → rank x (drop i (take n l)) ≡ suc (rank x (drop (i + 1) (take n l)))
-  unfolding rank
-  rank_on x y = rw (here, y)
-
-  pub up_on : (b : ℤ) → first_at_or_after b (drop i (take n l)) ≡ first_at_or_after (step_upward (get_or l i (pos 0)) b) (drop (i + 1) (take n l))
-  unfolding first_at_or_after
-  up_on b = ap (first_at_or_after b) here
-
-  pub down_on : (b : ℤ) → last_at_or_before b (drop i (take n l)) ≡ step_downward (get_or l i (pos 0)) (last_at_or_before b (drop (i + 1) (take n l)))
-  unfolding last_at_or_before
-  down_on b = ap (last_at_or_before b) here
-
-pub rank_end : (l : List ℤ) (n : ℕ) (x : ℤ) → rank x (drop n (take n l)) ≡ 0
-unfolding rank
-rank_end l n x = ap (rank x) (slice_empty n l)
-
-pub up_end : (l : List ℤ) (n : ℕ) (b : ℤ) → first_at_or_after b (drop n (take n l)) ≡ b
+-- ---- walks over the holes, from the front and from the back
+pub up_on : (l : List ℤ) (i : ℕ) (b : ℤ) → i < length l → first_at_or_after b (drop i l) ≡ first_at_or_after (step_upward (get_or l i (pos 0)) b) (drop (i + 1) l)
 unfolding first_at_or_after
-up_end l n b = ap (first_at_or_after b) (slice_empty n l)
+up_on l i b h = rw add-one (ap (first_at_or_after b) (drop-cons l i (pos 0) h))
 
-pub down_end : (l : List ℤ) (n : ℕ) (b : ℤ) → last_at_or_before b (drop n (take n l)) ≡ b
+pub down_on : (l : List ℤ) (h b : ℤ) → last_at_or_before b (l ++ h ∷ []) ≡ last_at_or_before (step_downward h b) l
 unfolding last_at_or_before
-down_end l n b = ap (last_at_or_before b) (slice_empty n l)
+down_on [] h b = refl
+down_on (g ∷ l) h b = ap (step_downward g) (down_on l h b)
 
 pub has_append : (a b : List ℤ) (x : ℤ) → has (a ++ b) x ≡ true → (has a x ≡ true) ⊎ (has b x ≡ true)
 has_append [] b x y = inr y

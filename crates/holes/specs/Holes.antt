@@ -1,5 +1,5 @@
 -- Holes: ascending lists of whole numbers, and the first and the last value that is none of them.
-use Rattle.std.specs.Prelude.{◌≡◌, Bool, true, cond, ◌&&◌, List, [], ◌∷◌, ◌++◌, ℕ, suc, ◌-◌, ltb, eqb, ℤ, pos, negsuc, ◌+ℤ◌, length, get_or, replicate, ◌≤ℤ◌, ◌<ℤ◌}
+use Rattle.std.specs.Prelude.{◌≡◌, Bool, true, cond, ◌&&◌, List, [], ◌∷◌, ◌++◌, ℕ, suc, ◌-◌, ℤ, pos, negsuc, ◌+ℤ◌, length, replicate, ◌≤ℤ◌, ◌<ℤ◌}
 use Rattle.std.specs.Int.Signed.{le_z, lt_z}
 use Rattle.integers.specs.Limits.{HOLES}
 use Rattle.integers.specs.WholeNumbers.{eq_z, has}
@@ -38,10 +38,6 @@ padded hs = hs ++ replicate (HOLES - length hs) (pos 0)
 unfoldable pub zeros : List ℤ → Bool
 zeros [] = true
 zeros (h ∷ hs) = eq_z h (pos 0) && zeros hs
-
--- what stands at place k once x is put in at place p
-unfoldable pub shifted_at : List ℤ → ℕ → ℤ → ℕ → ℤ
-shifted_at hs p x k = cond (ltb k p) (get_or hs k (pos 0)) (cond (eqb k p) x (get_or hs (k - 1) (pos 0)))
 
 -- a lower bound that is the hole h moves up by one
 abbrev pub step_upward : ℤ → ℤ → ℤ

@@ -6,6 +6,7 @@ pub mod Words
 pub mod Permutations
 pub mod Tests
 pub mod Answers
+pub mod RefusalNumbers
 pub mod StableSort
 pub mod Lists
 pub mod WholeNumbers

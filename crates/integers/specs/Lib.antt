@@ -1,5 +1,6 @@
 pub mod Limits
 pub mod Refused
+pub mod Reasons
 pub mod Extremes
 pub mod Moments
 pub mod Words

@@ -1,5 +1,7 @@
--- The numbers that refuse a call, each under one name; src/refused.rt has the same numbers under the same names.
-use Rattle.std.specs.Prelude.{ℕ}
+-- The numbers that refuse a call, each under one name; src/refused.rt has the same reasons and numbers.
+use Rattle.std.specs.Prelude.{ℕ, Result, Ok, Err}
+use Rattle.integers.specs.declared.refused.Refusal.{Refusal}
+use Rattle.integers.specs.declared.refused.Refusal.TheVariants as refusal
 
 -- no tasks, or more than TASKS
 abbrev pub TASK_COUNT : ℕ
@@ -92,3 +94,34 @@ STATE = 22
 -- a length of time below 1 or above LENGTH
 abbrev pub LENGTH : ℕ
 LENGTH = 23
+
+-- the number of a reason
+abbrev pub number_of : Refusal → ℕ
+number_of refusal.TaskCount = TASK_COUNT
+number_of refusal.Duration = DURATION
+number_of refusal.Start = START
+number_of refusal.Crossed = CROSSED
+number_of refusal.DurationSum = DURATION_SUM
+number_of refusal.Atoms = ATOMS
+number_of refusal.Premises = PREMISES
+number_of refusal.Consequent = CONSEQUENT
+number_of refusal.Room = ROOM
+number_of refusal.RangeCount = RANGE_COUNT
+number_of refusal.Post = POST
+number_of refusal.Removed = REMOVED
+number_of refusal.Bars = BARS
+number_of refusal.Schedule = SCHEDULE
+number_of refusal.PageRoom = PAGE_ROOM
+number_of refusal.ReasonRoom = REASON_ROOM
+number_of refusal.Task = TASK
+number_of refusal.Question = QUESTION
+number_of refusal.Due = DUE
+number_of refusal.Record = RECORD
+number_of refusal.Holes = HOLES
+number_of refusal.State = STATE
+number_of refusal.Length = LENGTH
+
+-- the number that refused a call; 0 where none did
+abbrev pub number_in : {A : Type 0} → Result A Refusal → ℕ
+number_in (Ok value) = 0
+number_in (Err why) = number_of why

@@ -25,10 +25,8 @@ pub fn moments_of(out: &mut [u32; TASKS], xs: &[i32])
     requires { length xs.now ≤ TASKS }
     ensures { out.new ≡ filled (moment_at xs.now) (length xs.now) out.old }
 {
-    let mut i = 0;
-    while i < xs.len() {
-        out[i] = moment_of(xs[i]);
-        i += 1;
+    for (i, x) in xs.iter().enumerate() {
+        out[i] = moment_of(*x);
     }
 }
 
@@ -42,9 +40,7 @@ pub fn completions(
     requires { (n ≤ TASKS) × ((k : ℕ) → k < n → completion_at latest.now durations.now k ≤ U32MAX) }
     ensures { out.new ≡ filled (completion_at latest.now durations.now) n out.old }
 {
-    let mut i = 0;
-    while i < n {
+    for i in 0..n {
         out[i] = latest[i] + durations[i];
-        i += 1;
     }
 }

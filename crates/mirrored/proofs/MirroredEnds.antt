@@ -27,7 +27,6 @@ use Rattle.runs.proofs.Demand as demand
 use Rattle.runs.proofs.Mirrored as laws
 use Rattle.runs.proofs.StartsLeft.{starts_length}
 use Rattle.records.specs.declared.record.DisjunctivePropagator.{DisjunctivePropagator}
-use Rattle.records.specs.Records.{record_of}
 use Rattle.records.specs.Refusals.{AcceptedRun}
 use Rattle.runs.specs.declared.outcome.Outcome.{Outcome}
 use Rattle.runs.specs.EndNumbers.{end_numbers, trace_numbers}
@@ -168,9 +167,9 @@ module _ {before : DisjunctivePropagator} {es ls : List ℤ} {post_count count_o
     pub left_mirrorable : (out : List ℤ) → length out ≡ n → StartsMirrorable out from' before.durations
     left_mirrorable out e = subst (λ (zs : List ℤ). StartsMirrorable out zs before.durations) (sym left_starts) (starts_mirrorable (mirrored_run ds es ls).starts run_long back_fits out e)
 
-    pub ran_in_mirror : (stored : ℕ) {ls' : List ℤ} → ls' ≡ starts_mirrored (take (length from') before.durations) from'
-        → RanInMirror (record_of before.count before.durations stored) es ls posts atoms r ls' posts' atoms'
-    ran_in_mirror stored z = record {
+    pub ran_in_mirror : {ls' : List ℤ} → ls' ≡ starts_mirrored (take (length from') before.durations) from'
+        → RanInMirror before es ls posts atoms r ls' posts' atoms'
+    ran_in_mirror z = record {
       answer = l.answer ∙ ap trace_numbers core_is;
       starts = z ∙ ap (λ (zs : List ℤ). starts_mirrored (take (length zs) before.durations) zs) left_starts
           ∙ ap (λ (m : ℕ). starts_mirrored (take m before.durations) (mirrored_run ds es ls).starts) (run_long ∙ count);

@@ -10,6 +10,7 @@ use lib.Signed.{◌≤ℤ◌}
 use mir.Syntax.{w32}
 use mir.Val.{SFits}
 use Rattle.integers.specs.Limits.{TASKS}
+use Rattle.integers.specs.declared.refused.Refusal.{Refusal}
 use Rattle.integers.specs.FilledLists.{filled}
 use Rattle.integers.proofs.FilledLists.{filled_length, filled_at}
 use Rattle.integers.proofs.Ints.{up, dn, ints}
@@ -234,5 +235,15 @@ module _ {r : Outcome} {words : List ℤ} (a : AtomsCountable r words) where
   overload_atoms m first many z = let o = kind_overload r a.trace a.answer (ap (λ (o : Outcome). (outcome_numbers o).kind) z) in
       omega (arith, all_atoms, o.first, o.count, ap (λ (x : End). length (end_reason x)) o.ended, ap (λ (o : Outcome). value_of o 1) z, ap (λ (o : Outcome). value_of o 2) z)
 
-  pub no_refusal : (number : ℕ) → r ≡ outcome.Refused number → ⊥
-  no_refusal number z = omega (arith, not_refused r a.trace a.answer, ap (λ (o : Outcome). (outcome_numbers o).kind) z)
+  pub no_refusal : (why : Refusal) → r ≡ outcome.Refused why → ⊥
+  no_refusal why z = omega (arith, not_refused r a.trace a.answer, ap (λ (o : Outcome). (outcome_numbers o).kind) z)
+
+  -- without an overload they are those of the posts alone
+  pub posts_alone : ((m first many : ℕ) → r ≡ outcome.Overload m first many → ⊥) → length (reasons ps) ≡ length (atoms_in a.trace)
+  posts_alone not = alone_at r refl
+    where
+      alone_at : (o : Outcome) → r ≡ o → length (reasons ps) ≡ length (atoms_in a.trace)
+      alone_at (outcome.Done m) z = done_atoms m z
+      alone_at (outcome.Overload m first many) z = absurd (not m first many z)
+      alone_at (outcome.Emptied m) z = emptied_atoms m z
+      alone_at (outcome.Refused why) z = absurd (no_refusal why z)

@@ -1,7 +1,5 @@
 // The mirrored pass: latest starts fall by the mirrored rule. It is a run in mirrored time, where the caller's moment t is -t, and its words are mirrored back.
-ghost use Rattle.std.specs.Prelude.{◌≡◌, ℕ, length};
-ghost use Rattle.integers.specs.Limits.{TASKS};
-ghost use Rattle.records.specs.Records.{record_of};
+ghost use Rattle.std.specs.Prelude.{length};
 ghost use Rattle.records.specs.Refusals.{AcceptedRun};
 ghost use Rattle.mirrored.specs.RanInMirror.{RanInMirror};
 ghost use Rattle.mirrored.specs.RanMirrored.{RanMirrored};
@@ -13,25 +11,26 @@ use records::record::DisjunctivePropagator;
 use records::refusals::run_refusal;
 use runs::outcome::Outcome;
 
-// A run on the mirrored ranges; the latest starts are what it left of the earliest, mirrored back.
+// A run on the mirrored ranges; the latest starts are what it left of the earliest, mirrored back. Nothing allocates, so the mirrored ranges stand at the front
+// of arrays of the largest size.
 fn run_in_mirror(
-    n: usize,
-    durations: &[u32; TASKS],
+    record: &DisjunctivePropagator,
     earliest: &[i32],
     latest: &mut [i32],
     posts: &mut [i32],
     atoms: &mut [i32],
 ) -> Outcome
-    requires { (stored : ℕ) × (length durations.now ≡ TASKS)
-        × AcceptedRun (record_of n durations.now stored) earliest.now latest.old (length posts.old) (length atoms.old) }
-    ensures { (stored : ℕ) → RanInMirror (record_of n durations.now stored) earliest.now latest.old
-        posts.old atoms.old result latest.new posts.new atoms.new }
+    requires { AcceptedRun «record».now earliest.now latest.old (length posts.old) (length atoms.old) }
+    ensures { RanInMirror «record».now earliest.now latest.old posts.old atoms.old result latest.new
+        posts.new atoms.new }
 {
+    let n = record.count;
+    let durations = &record.durations;
     let mut from: [i32; TASKS] = [0; TASKS];
     mirror_starts(&mut from[..n], latest, durations);
     let mut to: [i32; TASKS] = [0; TASKS];
     mirror_starts(&mut to[..n], earliest, durations);
-    let finished = run_accepted(n, durations, &mut from[..n], &to[..n], posts, atoms);
+    let finished = run_accepted(record, &mut from[..n], &to[..n], posts, atoms);
     mirror_starts(latest, &from[..n], durations);
     finished.outcome
 }
@@ -48,27 +47,17 @@ pub fn propagate_mirrored(
     ensures { RanMirrored «record» earliest.now latest.old bars_fit posts.old atoms.old result
         latest.new posts.new atoms.new }
 {
-    let number = run_refusal(
-        record.count,
-        &record.durations,
-        record.total,
+    if let Err(why) = run_refusal(
+        &record,
         earliest,
         latest,
         bars_fit,
         posts.len(),
         atoms.len(),
-    );
-    if number != 0 {
-        return Outcome::Refused(number);
+    ) {
+        return Outcome::Refused(why);
     }
-    let outcome = run_in_mirror(
-        record.count,
-        &record.durations,
-        earliest,
-        latest,
-        posts,
-        atoms,
-    );
+    let outcome = run_in_mirror(&record, earliest, latest, posts, atoms);
     mirror_words(outcome, posts, atoms, &record.durations);
     outcome
 }

@@ -11,7 +11,7 @@ ghost use Rattle.mirrored.specs.MirroredSlices.{AtomsMirrored, ReasonsCountable,
 
 use integers::limits::TASKS;
 use integers::numbers::nat_of;
-use post_words::{atom_count, bound_at, first_atom, kind_at, task_at, value_at, variable_at};
+use post_words::{bound_at, kind_at, read_post, task_at, value_at, variable_at};
 use runs::outcome::Outcome;
 
 // A start of a task that lasts p, in mirrored time; and back.
@@ -19,7 +19,7 @@ fn mirror_start(x: i32, p: u32) -> i32
     requires { SFits w32 (start_mirrored p x) }
     ensures { result ≡ start_mirrored p x }
 {
-    (0 - ((x as i64) + (p as i64))) as i32
+    -(i64::from(x) + i64::from(p)) as i32
 }
 
 // Each start, mirrored, in its place of `out`.
@@ -27,10 +27,8 @@ pub fn mirror_starts(out: &mut [i32], starts: &[i32], durations: &[u32; TASKS])
     requires { StartsMirrorable out.old starts.now durations.now }
     ensures { out.new ≡ starts_mirrored (take (length starts.now) durations.now) starts.now }
 {
-    let mut k = 0;
-    while k < starts.len() {
-        out[k] = mirror_start(starts[k], durations[k]);
-        k += 1;
+    for (k, x) in starts.iter().enumerate() {
+        out[k] = mirror_start(*x, durations[k]);
     }
 }
 
@@ -56,23 +54,20 @@ fn mirror_posts(posts: &mut [i32], count: usize, durations: &[u32; TASKS])
     requires { PostsMirrorable posts.old count durations.now }
     ensures { PostsMirrored posts.old count durations.now posts.new }
 {
-    let mut j = 0;
-    while j < count {
+    for j in 0..count {
         mirror_word(posts, task_at(j), bound_at(j), durations);
-        j += 1;
     }
 }
 
-// Of each atom the kind and the value are mirrored.
+// Of each atom the kind and the value are mirrored. What this shares with posts is `mirror_word`; one loop for both would take the places as closures, and a
+// kind that posts lack, and be no plainer.
 fn mirror_atoms(atoms: &mut [i32], count: usize, durations: &[u32; TASKS])
     requires { AtomsMirrorable atoms.old count durations.now }
     ensures { AtomsMirrored atoms.old count durations.now atoms.new }
 {
-    let mut k = 0;
-    while k < count {
+    for k in 0..count {
         mirror_kind(atoms, kind_at(k));
         mirror_word(atoms, variable_at(k), value_at(k), durations);
-        k += 1;
     }
 }
 
@@ -84,8 +79,8 @@ fn atoms_of_posts(posts: &[i32], count: usize) -> usize
     if count == 0 {
         return 0;
     }
-    let last = count - 1;
-    first_atom(posts, last) as usize + atom_count(posts, last) as usize
+    let last = read_post(posts, count - 1);
+    nat_of(last.first) as usize + nat_of(last.count) as usize
 }
 
 // How many posts a run with this outcome made.
@@ -93,13 +88,7 @@ fn posts_of(outcome: Outcome) -> usize
     ensures { result ≡ value_of outcome 0 }
 {
     match outcome {
-        Outcome::Done(m) => m,
-        Outcome::Overload {
-            posts,
-            first: _,
-            count: _,
-        } => posts,
-        Outcome::Emptied(m) => m,
+        Outcome::Done(posts) | Outcome::Overload { posts, .. } | Outcome::Emptied(posts) => posts,
         Outcome::Refused(_) => 0,
     }
 }
@@ -110,14 +99,8 @@ fn atoms_of(outcome: Outcome, posts: &[i32]) -> usize
     ensures { (a : AtomsCountable outcome posts.now) → result ≡ length (atoms_in a.trace) }
 {
     match outcome {
-        Outcome::Done(m) => atoms_of_posts(posts, m),
-        Outcome::Overload {
-            posts: _,
-            first,
-            count,
-        } => first + count,
-        Outcome::Emptied(m) => atoms_of_posts(posts, m),
-        Outcome::Refused(_) => 0,
+        Outcome::Overload { first, count, .. } => first + count,
+        _ => atoms_of_posts(posts, posts_of(outcome)),
     }
 }
 

@@ -9,6 +9,7 @@ use native.Mathlib.Numerals.{add-one}
 use native.Mathlib.Decide.{ℕ_discrete}
 use lib.IntN.{ℤ, pos}
 use lib.ListN.{length}
+use Rattle.integers.specs.declared.refused.Refusal.{Refusal}
 use Rattle.integers.specs.Answers.{answered, refused_by}
 use Rattle.integers.specs.Limits.{TASKS}
 use Rattle.integers.specs.Moments.{zero_at}
@@ -21,8 +22,7 @@ use Rattle.records.specs.Records.{tasks_in, moments_in}
 use Rattle.records.specs.Refusals.{AcceptedInput, input_number}
 use Rattle.records.proofs.AcceptedTasks.{count, proper_whole, above, proper}
 use Rattle.records.proofs.RefusedRuns.{accepted_input}
-use Rattle.overload_test.specs.declared.Overload.{Overload}
-use Rattle.overload_test.specs.declared.Overload.TheVariants.{Yes, No}
+use Rattle.std.specs.Prelude.{Option, Some, None, Result, Ok}
 use Rattle.overload_test.specs.ReadTasks.{overloads_at, answer_from, answer_of}
 use Rattle.overload_test.specs.Numbers.{numbers_of_overload}
 use Rattle.overload_test.specs.Tested.{OverloadTested}
@@ -30,11 +30,11 @@ use Rattle.overload_test.proofs.ReadTasks.{shown, met}
 
 module _ (J : Tasks natural) where
   -- the answer, step by step
-  ends_no : (k : ℕ) → answer_from J k 0 ≡ No
+  ends_no : (k : ℕ) → answer_from J k 0 ≡ None
   unfolding answer_from
   ends_no k = refl
 
-  stops : (k d : ℕ) → overloads_at J k ≡ true → answer_from J k (suc d) ≡ Yes (suc k)
+  stops : (k d : ℕ) → overloads_at J k ≡ true → answer_from J k (suc d) ≡ Some (suc k)
   unfolding answer_from
   stops k d y = rw (y, answer_from) refl
 
@@ -47,26 +47,26 @@ module _ (J : Tasks natural) where
     left : n - k ≡ suc (n - (k + 1))
     left = omega arith
 
-    pub answer_yes : overloads_at J k ≡ true → answer_from J k (n - k) ≡ Yes (k + 1)
-    answer_yes y = ap (answer_from J k) left ∙ stops k (n - (k + 1)) y ∙ ap Yes (sym (add-one k))
+    pub answer_yes : overloads_at J k ≡ true → answer_from J k (n - k) ≡ Some (k + 1)
+    answer_yes y = ap (answer_from J k) left ∙ stops k (n - (k + 1)) y ∙ ap Some (sym (add-one k))
 
     pub answer_on : overloads_at J k ≡ false → answer_from J k (n - k) ≡ answer_from J (k + 1) (n - (k + 1))
     answer_on y = ap (answer_from J k) left ∙ goes_on k (n - (k + 1)) y ∙ ap (λ (m : ℕ). answer_from J m (n - (k + 1))) (sym (add-one k))
 
-  pub answer_no : (n k : ℕ) → n ≤ k → answer_from J k (n - k) ≡ No
+  pub answer_no : (n k : ℕ) → n ≤ k → answer_from J k (n - k) ≡ None
   answer_no n k q = let z : n - k ≡ 0 = omega arith in ap (answer_from J k) z ∙ ends_no k
 
   -- yes at the first place of the d from k on that overloads, or no where none of them does
   pub record Stopped (k d : ℕ) : Type 0 where
     pub at : ℕ
-    pub is : answer_from J k d ≡ Yes (suc at)
+    pub is : answer_from J k d ≡ Some (suc at)
     pub from : k ≤ at
     pub small : at < k + d
     pub over : overloads_at J at ≡ true
     pub before : (j : ℕ) → k ≤ j → j < at → overloads_at J j ≡ false
 
   pub record Passed (k d : ℕ) : Type 0 where
-    pub is : answer_from J k d ≡ No
+    pub is : answer_from J k d ≡ None
     pub none : (j : ℕ) → k ≤ j → j < k + d → overloads_at J j ≡ false
 
   pub stopped_or_passed : (k d : ℕ) → Stopped k d ⊎ Passed k d
@@ -83,25 +83,25 @@ module _ (J : Tasks natural) where
       by (inr y) (inr p) = inr (record { is = goes_on k d y ∙ p.is; none = more y (λ j a b. p.none j a (omega arith)) })
 
   -- yes with some number of tasks exactly where a set overloads, and no exactly where none does
-  pub record Says (r : Overload) : Type 0 where
+  pub record Says (r : Result (Option ℕ) Refusal) : Type 0 where
     pub yes : ((k : ℕ) × (numbers_of_overload r ≡ answered 0 (pos k ∷ []))) ↔ ((Ω : TaskSet) × Overloads J Ω)
     pub no : (numbers_of_overload r ≡ answered 1 []) ↔ ((Ω : TaskSet) → Overloads J Ω → ⊥)
     pub many : (k : ℕ) → numbers_of_overload r ≡ answered 0 (pos k ∷ []) → (1 ≤ k) × (k ≤ J.count)
 
-  pub says : Proper J → (r : Overload) → r ≡ answer_of J → Says r
+  pub says : Proper J → (r : Result (Option ℕ) Refusal) → r ≡ Ok (answer_of J) → Says r
   says ok r z = by (stopped_or_passed 0 J.count)
     where
       by : Stopped 0 J.count ⊎ Passed 0 J.count → Says r
       by (inl s) =
           let found = shown J ok s.at (omega (arith, s.small)) s.over in
-          let is : numbers_of_overload r ≡ answered 0 (pos (suc s.at) ∷ []) = ap numbers_of_overload (z ∙ s.is) in
+          let is : numbers_of_overload r ≡ answered 0 (pos (suc s.at) ∷ []) = ap numbers_of_overload (z ∙ ap Ok s.is) in
           record {
             yes = (λ w. found, λ w. (suc s.at, is));
             no = (λ e. absurd (omega (arith, same_kind (sym is ∙ e))), λ f. absurd (f found.0 found.1));
             many = λ k e. (let m : suc s.at ≡ k = same_count (sym is ∙ e) 0 in (omega arith, omega (arith, s.small)));
           }
       by (inr p) =
-          let is : numbers_of_overload r ≡ answered 1 [] = ap numbers_of_overload (z ∙ p.is) in
+          let is : numbers_of_overload r ≡ answered 1 [] = ap numbers_of_overload (z ∙ ap Ok p.is) in
           let none : (Ω : TaskSet) → Overloads J Ω → ⊥ = λ Ω o. (let w = met J ok Ω o in clash w.2 (p.none w.0 (omega arith) (omega (arith, w.1)))) in
           record {
             yes = (λ w. absurd (omega (arith, same_kind (sym is ∙ w.1))), λ w. absurd (none w.0 w.1));
@@ -110,8 +110,8 @@ module _ (J : Tasks natural) where
           }
 
 -- the contract, of a record and ranges that are accepted, and of others
-pub tested : (before : DisjunctivePropagator) (es ls : List ℤ) (bars : Bool) (r : Overload) → AcceptedInput before es ls → bars ≡ true → length before.durations ≡ TASKS
-    → r ≡ answer_of (moments_in before es ls) → OverloadTested before es ls bars r
+pub tested : (before : DisjunctivePropagator) (es ls : List ℤ) (bars : Bool) (r : Result (Option ℕ) Refusal) → AcceptedInput before es ls → bars ≡ true → length before.durations ≡ TASKS
+    → r ≡ Ok (answer_of (moments_in before es ls)) → OverloadTested before es ls bars r
 tested before es ls bars r a fit long z =
     let Z = tasks_in before es ls in
     let low = above before es ls a long in
@@ -125,7 +125,7 @@ tested before es ls bars r a fit long z =
       many = λ k e. (let m = s.many k e in (m.0, omega (arith, m.1, count before es ls a long)));
     }
 
-pub is_refused : (before : DisjunctivePropagator) (es ls : List ℤ) (bars : Bool) (r : Overload) → (input_number before es ls bars ≡ 0 → ⊥)
+pub is_refused : (before : DisjunctivePropagator) (es ls : List ℤ) (bars : Bool) (r : Result (Option ℕ) Refusal) → (input_number before es ls bars ≡ 0 → ⊥)
     → numbers_of_overload r ≡ refused_by (input_number before es ls bars) → OverloadTested before es ls bars r
 is_refused before es ls bars r h z = record {
   refused = λ _. z;

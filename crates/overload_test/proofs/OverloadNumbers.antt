@@ -1,21 +1,23 @@
 -- Different answers have different numbers.
-use mathlib.Core.Path.{◌≡◌, refl}
+use mathlib.Core.Path.{◌≡◌, refl, ap}
 use Prim.Native.Nat.{ℕ, zero, suc}
+use Rattle.integers.specs.declared.refused.Refusal.{Refusal}
 use Rattle.integers.specs.Answers.{Answer}
 use Rattle.integers.proofs.Answers.{count_at, told_apart}
-use Rattle.overload_test.specs.declared.Overload.{Overload}
-use Rattle.overload_test.specs.declared.Overload.TheVariants.{Yes, No, Refused}
+use Rattle.std.specs.Prelude.{Option, Some, None, Result, Ok, Err}
+use Rattle.integers.specs.Reasons.{reason_of}
+use Rattle.integers.proofs.RefusalNumbers.{reason_is}
 use Rattle.overload_test.specs.Numbers.{numbers_of_overload}
 
-abbrev overload_of : ℕ → Answer → Overload
-overload_of zero a = Yes (count_at a 0)
-overload_of (suc zero) a = No
-overload_of (suc (suc k)) a = Refused a.number
+abbrev overload_of : ℕ → Answer → Result (Option ℕ) Refusal
+overload_of zero a = Ok (Some (count_at a 0))
+overload_of (suc zero) a = Ok None
+overload_of (suc (suc k)) a = Err (reason_of a.number)
 
-read : (x : Overload) → overload_of (numbers_of_overload x).kind (numbers_of_overload x) ≡ x
-read (Yes k) = refl
-read No = refl
-read (Refused number) = refl
+read : (x : Result (Option ℕ) Refusal) → overload_of (numbers_of_overload x).kind (numbers_of_overload x) ≡ x
+read (Ok (Some k)) = refl
+read (Ok None) = refl
+read (Err why) = ap Err (reason_is why)
 
-pub overloads_apart : (x y : Overload) → numbers_of_overload x ≡ numbers_of_overload y → x ≡ y
+pub overloads_apart : (x y : Result (Option ℕ) Refusal) → numbers_of_overload x ≡ numbers_of_overload y → x ≡ y
 overloads_apart = told_apart numbers_of_overload (λ a. overload_of a.kind a) read

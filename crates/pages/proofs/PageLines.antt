@@ -9,23 +9,23 @@ use native.Mathlib.Omega.{arith}
 use lib.IntN.{ℤ}
 use lib.ListN.{length, get_or, take, drop, length-append}
 use lib.Seq.{take-suc, take_at, drop-append-add}
+use Rattle.std.specs.Prelude.{Result, Ok, Err}
+use Rattle.integers.specs.declared.refused.Refusal.{Refusal}
 use Rattle.integers.specs.Answers.{refused_by}
 use Rattle.integers.specs.Limits.{TASKS, DURATIONS}
 use Rattle.integers.specs.Orders.{has}
+use Rattle.integers.proofs.RefusalNumbers.{never_zero}
 use Rattle.integers.proofs.Words.{overwrites}
 use Rattle.integers.proofs.Permutations.{has_here, has_later}
 use Rattle.integers.specs.Texts.{bytes_of}
 use Rattle.records.specs.declared.record.DisjunctivePropagator.{DisjunctivePropagator}
 use Rattle.fixed_schedules.specs.FixedSchedules.{start_at, end_at, order_of}
 use Rattle.fixed_schedules.specs.Neighbours.{Sortable, Traversable, Tested}
-use Rattle.fixed_schedules.specs.declared.refusals.FixedOrder.{FixedOrder}
-use Rattle.fixed_schedules.proofs.ScheduleOrder.{ordered, order_length, order_permutes}
+use Rattle.fixed_schedules.proofs.ScheduleOrder.{ordered, order_length, order_permutes, front_within}
 use Rattle.fixed_schedules.proofs.AcceptedSchedules.{input_of, sortable, short, traversable}
 use Rattle.text.specs.DecimalText.{Puts}
 use Rattle.text.proofs.PutBytes.{puts_append}
 use Rattle.pages.specs.Lines.{LINE, heading}
-use Rattle.pages.specs.declared.answer.Page.{Page}
-use Rattle.pages.specs.declared.answer.Page.TheVariants.{Written, Refused}
 use Rattle.pages.specs.Numbers.{numbers_of_page}
 use Rattle.pages.specs.Pages.{line_at, page_of, page_number, AcceptedPage, OneLineEach, Paged}
 use Rattle.pages.proofs.RightAligned.{line_length, line_once}
@@ -110,30 +110,40 @@ module _ (ds : List ℕ) (es : List ℤ) (s : Sortable es) (short : (k : ℕ) �
 
 -- ---- the call
 module _ (r : DisjunctivePropagator) (es ls : List ℤ) (out : List ℕ) where
-  pub refused : {out' : List ℕ} (m : ℕ) → m ≡ page_number r es ls (length out) → (m ≡ 0 → ⊥) → out' ≡ out → Paged r es ls out (Refused m) out'
-  refused m e not k = record {
-    refused = λ h. record { answer = ap refused_by e; keeps = k };
-    written = λ z. absurd (not (e ∙ z));
-    lines = λ z. absurd (not (e ∙ z));
+  pub refused : {out' : List ℕ} (why : Refusal) → Tested es (page_number r es ls (length out)) (Err why) → out' ≡ out → Paged r es ls out (Err why) out'
+  refused why t k = record {
+    refused = λ h. record { answer = ap refused_by t.number; keeps = k };
+    written = λ z. absurd (never_zero why (t.number ∙ z));
+    lines = λ z. absurd (never_zero why (t.number ∙ z));
   }
 
   -- where no test fails, the order and the room are what the lines ask for, and the lines are the page
-  module _ {f : FixedOrder} (t : Tested es (page_number r es ls (length out)) f) (z : f.number ≡ 0) where
+  module _ (order : List ℕ) (t : Tested es (page_number r es ls (length out)) (Ok order)) where
     held : AcceptedPage r es ls (length out)
-    held = (accepted_page r es ls (length out)).0 (sym t.number ∙ z)
+    held = (accepted_page r es ls (length out)).0 (sym t.number)
 
-    sorted : take (length es) f.order ≡ order_of es
-    sorted = t.order (sym t.number ∙ z)
+    -- the tasks by start
+    count : r.count ≡ length es
+    count = sym held.schedule.counts.earliest
 
-    pub able : Traversable f.order es r.durations × (LINE * (length es + 1) ≤ length out)
-    able = (traversable r es ls (input_of held.schedule) f.order sorted, omega (arith, held.room, held.schedule.counts.earliest))
+    sorted : take r.count order ≡ order_of es
+    sorted = ap (λ (n : ℕ). take n order) count ∙ t.order
 
-    pub written : {out' : List ℕ} (n : ℕ) → Puts out out' 0 (heading ++ flat_map (line_at r.durations es) (take (length es) f.order)) n → Paged r es ls out (Written n) out'
+    pub within : r.count ≤ length order
+    within = omega (arith, count, front_within es order t.order)
+
+    pub fits : r.count ≡ length (take r.count order)
+    fits = omega (arith, count, ap length sorted, order_length es)
+
+    pub able : Traversable (take r.count order) es r.durations × (LINE * (length (take r.count order) + 1) ≤ length out)
+    able = (traversable r es ls (input_of held.schedule) sorted, omega (arith, held.room, count, ap length sorted, order_length es))
+
+    pub written : {out' : List ℕ} (n : ℕ) → Puts out out' 0 (heading ++ flat_map (line_at r.durations es) (take r.count order)) n → Paged r es ls out (Ok n) out'
     written {out'} n q = record {
-      refused = λ not. absurd (not (sym t.number ∙ z));
+      refused = λ not. absurd (not (sym t.number));
       written = λ _. record {
-        answer = ap (λ (m : ℕ). numbers_of_page (Written m)) (omega (arith, page.end, one.long, held.schedule.counts.earliest));
-        text = page.text ∙ overwrites out (page_of r.durations es) (omega (arith, one.long, held.schedule.counts.earliest, held.room));
+        answer = ap (λ (m : ℕ). numbers_of_page (Ok m)) (omega (arith, page.end, one.long, count));
+        text = page.text ∙ overwrites out (page_of r.durations es) (omega (arith, one.long, count, held.room));
       };
       lines = λ _. one;
     }
@@ -145,7 +155,7 @@ module _ (r : DisjunctivePropagator) (es ls : List ℤ) (out : List ℕ) where
         page = subst (λ (l : List ℕ). Puts out out' 0 (heading ++ flat_map (line_at r.durations es) l) n) sorted q
 
 -- too many ranges are refused as none are
-pub too_many : (r : DisjunctivePropagator) (es ls : List ℤ) (out : List ℕ) (page : Page) (out' : List ℕ) → TASKS < length es → Paged r [] [] out page out' → Paged r es ls out page out'
+pub too_many : (r : DisjunctivePropagator) (es ls : List ℤ) (out : List ℕ) (page : Result ℕ Refusal) (out' : List ℕ) → TASKS < length es → Paged r [] [] out page out' → Paged r es ls out page out'
 too_many r es ls out page out' many p =
     let (same, not) = page_many r es ls (length out) many in
     let k = p.refused (λ z. not (sym same ∙ z)) in

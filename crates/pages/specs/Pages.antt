@@ -1,7 +1,8 @@
 -- A page of a fixed schedule: what refuses it, its bytes, and what the call leaves.
-use Rattle.std.specs.Prelude.{◌≡◌, ℕ, ◌+◌, ◌*◌, ◌≤◌, ◌<◌, leb, ℤ, pos, ◌≤ℤ◌, length, get_or, take, drop}
+use Rattle.std.specs.Prelude.{◌≡◌, ℕ, ◌+◌, ◌*◌, ◌≤◌, ◌<◌, leb, ℤ, pos, ◌≤ℤ◌, length, get_or, take, drop, Result}
 use mathlib.Core.List.{List, [], ◌∷◌, ◌++◌, flat_map}
 use Rattle.integers.specs.Refused as refused
+use Rattle.integers.specs.declared.refused.Refusal.{Refusal}
 use Rattle.integers.specs.Answers.{answered, refused_by}
 use Rattle.integers.specs.Words.{overwritten}
 use Rattle.integers.specs.Orders.{index, Ordered}
@@ -9,7 +10,6 @@ use Rattle.integers.specs.Tests.{Test, test, refusal}
 use Rattle.records.specs.declared.record.DisjunctivePropagator.{DisjunctivePropagator}
 use Rattle.fixed_schedules.specs.FixedSchedules.{start_at, end_at, fixed_tests, AcceptedFixed, order_of}
 use Rattle.pages.specs.Lines.{LINE, heading, line_of}
-use Rattle.pages.specs.declared.answer.Page.{Page}
 use Rattle.pages.specs.Numbers.{numbers_of_page}
 
 -- The tests ---------------------------------------------------------------------------------------------------------------------
@@ -48,17 +48,17 @@ pub record OneLineEach (ds : List ℕ) (es : List ℤ) (page : List ℕ) : Type 
 -- What the call leaves -----------------------------------------------------------------------------------------------------------
 
 -- A refused page leaves the buffer unchanged.
-pub record PageKept (number : ℕ) (bytes : List ℕ) (p : Page) (bytes' : List ℕ) : Type 0 where
+pub record PageKept (number : ℕ) (bytes : List ℕ) (p : Result ℕ Refusal) (bytes' : List ℕ) : Type 0 where
   pub answer : numbers_of_page p ≡ refused_by number
   pub keeps : bytes' ≡ bytes
 
 -- A page is written at the front of the buffer, and the bytes after it are unchanged.
-pub record PageLeft (r : DisjunctivePropagator) (es : List ℤ) (bytes : List ℕ) (p : Page) (bytes' : List ℕ) : Type 0 where
+pub record PageLeft (r : DisjunctivePropagator) (es : List ℤ) (bytes : List ℕ) (p : Result ℕ Refusal) (bytes' : List ℕ) : Type 0 where
   pub answer : numbers_of_page p ≡ answered 0 (pos (LINE * (r.count + 1)) ∷ [])
   pub text : bytes' ≡ overwritten bytes (page_of r.durations es)
 
 -- A page: the first test that fails refuses it; else the page is written, which has one line for each task.
-pub record Paged (r : DisjunctivePropagator) (es ls : List ℤ) (bytes : List ℕ) (p : Page) (bytes' : List ℕ) : Type 0 where
+pub record Paged (r : DisjunctivePropagator) (es ls : List ℤ) (bytes : List ℕ) (p : Result ℕ Refusal) (bytes' : List ℕ) : Type 0 where
   pub refused : (page_number r es ls (length bytes) ≡ 0 → ⊥) → PageKept (page_number r es ls (length bytes)) bytes p bytes'
   pub written : page_number r es ls (length bytes) ≡ 0 → PageLeft r es bytes p bytes'
   pub lines : page_number r es ls (length bytes) ≡ 0 → OneLineEach r.durations es (page_of r.durations es)

@@ -1,6 +1,5 @@
 // The page: a fixed schedule as text, one line for each task.
 #![tactic(auto)]
 
-pub mod answer;
 pub mod lines;
 pub mod page;

@@ -1,5 +1,6 @@
-// The lines of a page, put into a buffer.
-ghost use Rattle.std.specs.Prelude.{◌≡◌, ◌+◌, ◌*◌, ◌≤◌, ◌<◌, pos, ◌+ℤ◌, length, take};
+// The lines of a page. Each function puts its bytes at a place of the caller's buffer and answers the place after them: nothing allocates, so there is no
+// String to append to.
+ghost use Rattle.std.specs.Prelude.{◌≡◌, ◌+◌, ◌*◌, ◌≤◌, ◌<◌, pos, ◌+ℤ◌, length};
 ghost use mathlib.Core.List.{◌++◌, flat_map};
 ghost use Rattle.integers.specs.Limits.{TASKS, DURATIONS};
 ghost use Rattle.records.specs.Refusals.{StartFits};
@@ -9,7 +10,6 @@ ghost use Rattle.pages.specs.Lines.{LINE, pad_left, heading, line_of};
 ghost use Rattle.pages.specs.Pages.{line_at};
 
 use integers::limits::TASKS;
-use integers::moments::{moment_of, start_of};
 use integers::numbers::word_of;
 use text::writing::{put_bytes, put_number};
 
@@ -24,12 +24,12 @@ pub fn put_right(out: &mut [u8], at: usize, width: usize, x: i32) -> usize
     put_bytes(out, at, &text[end - width..end])
 }
 
-// When a task that starts there ends: the start's moment plus the duration.
+// When a task that starts there ends.
 pub fn end_of(start: i32, duration: u32) -> i32
     requires { StartFits start × (duration ≤ DURATIONS) }
     ensures { result ≡ start +ℤ pos duration }
 {
-    start_of(moment_of(start) + duration)
+    start + duration as i32
 }
 
 // A task's line.
@@ -57,20 +57,17 @@ fn put_heading(out: &mut [u8]) -> usize
 // The heading, and after it the lines of the tasks in an order.
 pub fn put_lines(
     out: &mut [u8],
-    order: &[usize; TASKS],
+    order: &[usize],
     earliest: &[i32],
     durations: &[u32; TASKS],
 ) -> usize
-    requires { Traversable order.now earliest.now durations.now × (LINE * (length earliest.now + 1) ≤ length out.old) }
+    requires { Traversable order.now earliest.now durations.now × (LINE * (length order.now + 1) ≤ length out.old) }
     ensures { Puts out.old out.new 0
-        (heading ++ flat_map (line_at durations.now earliest.now) (take (length earliest.now) order.now)) result }
+        (heading ++ flat_map (line_at durations.now earliest.now) order.now) result }
 {
     let mut at = put_heading(out);
-    let mut i = 0;
-    while i < earliest.len() {
-        let task = order[i];
+    for &task in order {
         at = put_line(out, at, task, earliest[task], durations[task]);
-        i += 1;
     }
     at
 }

@@ -1,43 +1,41 @@
-// The page: refused by number with nothing changed, or written.
+// The page: refused with nothing changed, or written.
 ghost use Rattle.fixed_schedules.specs.Neighbours.{Tested};
 ghost use Rattle.pages.specs.Pages.{page_number, Paged};
 
-use crate::answer::Page;
 use crate::lines::put_lines;
-use fixed_schedules::refusals::{FixedOrder, fixed_refusal};
-use integers::refused;
+use fixed_schedules::refusals::fixed_order;
+use integers::limits::TASKS;
+use integers::refused::Refusal;
 use records::record::DisjunctivePropagator;
 
 // The bytes of a line, its line feed among them.
 const LINE: usize = 31;
 
-// The number that refuses a page, or 0 and the tasks by start: 20, 10, 3, 4, 14, 15.
-fn page_refusal(
-    record: DisjunctivePropagator,
+// The tasks by start, or why a page is refused: for its schedule, and then for its room.
+fn page_order(
+    record: &DisjunctivePropagator,
     earliest: &[i32],
     latest: &[i32],
     room: usize,
-) -> FixedOrder
-    ensures { Tested earliest.now (page_number «record» earliest.now latest.now room) result }
+) -> Result<[usize; TASKS], Refusal>
+    ensures { Tested earliest.now (page_number «record».now earliest.now latest.now room) result }
 {
-    let fixed = fixed_refusal(record, earliest, latest);
-    if fixed.number != 0 {
-        return fixed;
-    }
+    let order = fixed_order(record, earliest, latest)?;
     if room < LINE * (record.count + 1) {
-        return FixedOrder::refused_by(refused::PAGE_ROOM);
+        return Err(Refusal::PageRoom);
     }
-    fixed
+    Ok(order)
 }
 
-// A page of a fixed schedule, written at the front of the buffer.
-pub fn page(record: DisjunctivePropagator, earliest: &[i32], latest: &[i32], out: &mut [u8]) -> Page
+// A page of a fixed schedule, written at the front of the buffer: how many bytes it has, or why it is refused.
+pub fn page(
+    record: DisjunctivePropagator,
+    earliest: &[i32],
+    latest: &[i32],
+    out: &mut [u8],
+) -> Result<usize, Refusal>
     ensures { Paged «record» earliest.now latest.now out.old result out.new }
 {
-    let fixed = page_refusal(record, earliest, latest, out.len());
-    if fixed.number != 0 {
-        return Page::Refused(fixed.number);
-    }
-    let written = put_lines(out, &fixed.order, earliest, &record.durations);
-    Page::Written(written)
+    let order = page_order(&record, earliest, latest, out.len())?;
+    Ok(put_lines(out, &order[..record.count], earliest, &record.durations))
 }

@@ -6,11 +6,12 @@ use mathlib.Core.Logic.{◌⊎◌, inl, inr}
 use mathlib.Core.Option.{Option, none, some}
 use Prim.Native.Nat.{ℕ, zero, suc, ◌+◌, ◌*◌, ◌≤◌, ◌<◌}
 use native.Mathlib.Omega.{arith}
-use lib.Dec.{eqb}
+use Rattle.std.specs.Prelude.{None, Some, Result, Ok, Err}
+use lib.Dec.{eqb, leb}
 use lib.IntN.{ℤ, pos, negsuc}
 use lib.ListN.{length, get_or, take, replicate, length-map, length-replicate}
 use lib.Seq.{ext_get_or, get_or-take, length-take-le}
-use borrow.Author.Tests.{eq-eqb}
+use borrow.Author.Tests.{eq-eqb, le-leb, lt-leb, leb-false}
 use Rattle.integers.specs.Limits.{TASKS}
 use Rattle.integers.specs.Tests.{refusal}
 use Rattle.integers.proofs.Bools.{bool}
@@ -22,12 +23,16 @@ use Rattle.text.specs.Scanner.{gathered}
 use Rattle.text.specs.declared.reading.Numbers.{Numbers}
 use Rattle.text.proofs.ScannedNumbers.{kept_at}
 use Rattle.plan_cli.specs.InputCount.{count_in, column}
-use Rattle.plan_cli.specs.declared.input.Counted.TheVariants as counted
-use Rattle.plan_cli.proofs.InputCount.{CountedTriples}
+use Rattle.plan_cli.proofs.InputCount.{CountedTriples, listed}
+use Rattle.plan_cli.specs.declared.input.Unread.{Unread}
+use Rattle.plan_cli.specs.declared.input.Unread.TheVariants as unread
 use Rattle.plan_cli.specs.Printed.{Triple, triples, input_tasks, listed_tasks}
+use Rattle.plan_cli.specs.Columns.{Columns, columns_of, of_columns}
+use Rattle.plan_cli.specs.InputTasks.{read_of}
+use Rattle.plan_cli.specs.Unread.{number_of_unread}
 
 -- ---- what the count says of the input
-pub not_listed : (xs : Option (List ℤ)) → counted.Wrong ≡ count_in xs → listed_tasks xs ≡ none
+not_listed : (xs : Option (List ℤ)) → None ≡ count_in xs → listed_tasks xs ≡ none
 unfolding input_tasks count_in
 not_listed none h = refl
 not_listed (some []) h = refl
@@ -35,10 +40,10 @@ not_listed (some (negsuc n ∷ xs)) h = refl
 not_listed (some (pos n ∷ xs)) h = by (bool (eqb (length xs) (3 * n)))
   where
     by : (eqb (length xs) (3 * n) ≡ true) ⊎ (eqb (length xs) (3 * n) ≡ false) → listed_tasks (some (pos n ∷ xs)) ≡ none
-    by (inl z) = let e : counted.Wrong ≡ counted.Tasks n = h ∙ rw (z, count_in) in let y : ◌≡◌ {A = ℕ} 0 1 = cc in absurd (omega arith)
+    by (inl z) = let e : None ≡ Some n = h ∙ rw (z, count_in) in cc
     by (inr z) = rw (z, input_tasks)
 
-pub tasks_listed : (xs : Option (List ℤ)) (n : ℕ) (l : CountedTriples xs n) → listed_tasks xs ≡ some (triples l.rest)
+tasks_listed : (xs : Option (List ℤ)) (n : ℕ) (l : CountedTriples xs n) → listed_tasks xs ≡ some (triples l.rest)
 unfolding input_tasks
 tasks_listed xs n l = ap listed_tasks l.whole ∙ rw (eq-eqb (length l.rest) (3 * n) l.long, input_tasks)
 
@@ -108,20 +113,58 @@ module _ (ns : Numbers) (n : ℕ) (rest : List ℤ) (h : ns ≡ gathered (some (
         column_is (λ t. t.duration) 2 (omega arith) (λ k q. (triple_at n rest long k q).duration),
       )
 
--- ---- what is made of the tasks: f of their starts and durations
-module _ {A : Type 0} (g : Option (List Triple) → A) (f : List ℤ → List ℤ → List ℤ → A)
-    (given : (ts : List Triple) → g (some ts) ≡ f (map (λ (t : Triple). t.earliest) ts) (map (λ (t : Triple). t.latest) ts) (map (λ (t : Triple). t.duration) ts)) where
-  pub few_listed : (ns : Numbers) (xs : Option (List ℤ)) (n : ℕ) {es ls ds : List ℤ} → ns ≡ gathered xs → CountedTriples xs n → n ≤ TASKS → es ≡ column ns.kept n 1 → ls ≡ column ns.kept n 2
-      → ds ≡ column ns.kept n 3
-      → f (take n es) (take n ls) (take n ds) ≡ g (listed_tasks xs)
-  few_listed ns xs n h l q e e' e'' =
-      let (c, c', c'') = columns ns n l.rest (h ∙ ap gathered l.whole) l.long q in
-      (λ i. f (take n (e i)) (take n (e' i)) (take n (e'' i))) ∙ (λ i. f (c i) (c' i) (c'' i)) ∙ sym (ap g (tasks_listed xs n l) ∙ given (triples l.rest))
+-- ---- what is read of an input, by its count
+pub read_none : (xs : Option (List ℤ)) → None ≡ count_in xs → Err unread.NoTasks ≡ read_of (listed_tasks xs)
+unfolding read_of
+read_none xs h = ap read_of (sym (not_listed xs h))
 
-  -- more tasks than a record has: creation refuses them
-  pub many_listed : (xs : Option (List ℤ)) (n : ℕ) → CountedTriples xs n → TASKS < n → (v : A) → ((es ls ds : List ℤ) → refusal (creation_tests ds) ≡ 1 → f es ls ds ≡ v) → v ≡ g (listed_tasks xs)
-  many_listed xs n l q v told =
-      let ts = triples l.rest in
-      let ds = map (λ (t : Triple). t.duration) ts in
-      let m : length ds ≡ n = length-map ts (λ t. t.duration) ∙ triples_long n l.rest l.long in
-      sym (ap g (tasks_listed xs n l) ∙ given ts ∙ told _ _ ds ((refused_1 ds).1 (λ z. omega (arith, z.1))))
+pub read_many : (xs : Option (List ℤ)) (n : ℕ) → Some n ≡ count_in xs → TASKS < n → Err unread.TooMany ≡ read_of (listed_tasks xs)
+unfolding read_of
+read_many xs n h q =
+    let l = listed xs n h in
+    let m = triples_long n l.rest l.long in
+    rw (tasks_listed xs n l, lt-leb (length (triples l.rest)) TASKS (omega arith), read_of) refl
+
+pub read_few : (ns : Numbers) (xs : Option (List ℤ)) (n : ℕ) {es ls ds : List ℤ} → ns ≡ gathered xs → Some n ≡ count_in xs → n ≤ TASKS → es ≡ column ns.kept n 1
+    → ls ≡ column ns.kept n 2 → ds ≡ column ns.kept n 3
+    → Ok (record { earliest = take n es; latest = take n ls; durations = take n ds }) ≡ read_of (listed_tasks xs)
+unfolding read_of
+read_few ns xs n h k q e e' e'' =
+    let l = listed xs n k in
+    let m = triples_long n l.rest l.long in
+    let (c, c', c'') = columns ns n l.rest (h ∙ ap gathered l.whole) l.long q in
+    rw (tasks_listed xs n l, le-leb (length (triples l.rest)) TASKS (omega arith), read_of)
+    (λ i. Ok (record { earliest = (ap (take n) e ∙ c) i; latest = (ap (take n) e' ∙ c') i; durations = (ap (take n) e'' ∙ c'') i }))
+
+-- ---- what is answered to it: g of the tasks, which is f of their starts and durations
+module _ {A : Type 0} (g : Option (List Triple) → A) (f : List ℤ → List ℤ → List ℤ → A) (given : (ts : List Triple) → g (some ts) ≡ of_columns f (columns_of ts)) where
+  pub answered_tasks : (l : Option (List Triple)) (t : Columns) → Ok t ≡ read_of l → of_columns f t ≡ g l
+  unfolding read_of
+  answered_tasks none t h = cc
+  answered_tasks (some ts) t h = by (bool (leb (length ts) TASKS))
+    where
+      by : (leb (length ts) TASKS ≡ true) ⊎ (leb (length ts) TASKS ≡ false) → of_columns f t ≡ g (some ts)
+      by (inl z) =
+          let e : ◌≡◌ {A = Result Columns Unread} (Ok t) (Ok (columns_of ts)) = h ∙ rw (z, read_of) in
+          let same : t ≡ columns_of ts = cc in
+          ap (of_columns f) same ∙ sym (given ts)
+      by (inr z) = let e : ◌≡◌ {A = Result Columns Unread} (Ok t) (Err unread.TooMany) = h ∙ rw (z, read_of) in cc
+
+  -- or what refuses it: creation, where there are too many
+  module _ (refused : ℕ → A) (none_refused : g none ≡ refused 0) (told : (es ls ds : List ℤ) → refusal (creation_tests ds) ≡ 1 → f es ls ds ≡ refused 1) where
+    pub answered_unread : (l : Option (List Triple)) (why : Unread) → Err why ≡ read_of l → refused (number_of_unread why) ≡ g l
+    unfolding read_of
+    answered_unread none why h =
+        let e : why ≡ unread.NoTasks = cc in
+        ap (λ (w : Unread). refused (number_of_unread w)) e ∙ sym none_refused
+    answered_unread (some ts) why h = by (bool (leb (length ts) TASKS))
+      where
+        by : (leb (length ts) TASKS ≡ true) ⊎ (leb (length ts) TASKS ≡ false) → refused (number_of_unread why) ≡ g (some ts)
+        by (inl z) = let e : ◌≡◌ {A = Result Columns Unread} (Err why) (Ok (columns_of ts)) = h ∙ rw (z, read_of) in cc
+        by (inr z) =
+            let e : ◌≡◌ {A = Result Columns Unread} (Err why) (Err unread.TooMany) = h ∙ rw (z, read_of) in
+            let same : why ≡ unread.TooMany = cc in
+            let ds = (columns_of ts).durations in
+            let m : length ds ≡ length ts = length-map ts (λ t. t.duration) in
+            let few : length ds ≤ TASKS → ⊥ = λ q. omega (arith, leb-false (length ts) TASKS z) in
+            ap (λ (w : Unread). refused (number_of_unread w)) same ∙ sym (told _ _ ds ((refused_1 ds).1 (λ q. few q.1))) ∙ sym (given ts)

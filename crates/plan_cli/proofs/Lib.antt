@@ -5,4 +5,3 @@ pub mod PrintedRun
 pub mod InputTasks
 pub mod PrintedSlices
 pub mod FirstBytes
-mod Marks

@@ -2,58 +2,51 @@
 use mathlib.Core.Path.{◌≡◌, refl, sym, ap, subst, ◌∙◌}
 use mathlib.Core.List.{List, ◌++◌}
 use mathlib.Core.Logic.{◌⊎◌, inl, inr}
-use Prim.Native.Nat.{ℕ, ◌+◌, ◌*◌, ◌≤◌, ◌<◌}
+use Prim.Native.Nat.{ℕ, ◌*◌}
 use native.Mathlib.Omega.{arith}
 use lib.IntN.{ℤ}
 use lib.ListN.{length, take, drop}
 use Rattle.integers.specs.Answers.{Answer}
-use Rattle.integers.specs.Limits.{TASKS, ATOMS}
 use Rattle.scheduling.specs.Scheduling.{Atom}
 use Rattle.scheduling.specs.Words.{atom_words}
 use Rattle.runs.specs.Traces.{Post, End, done, overload, emptied, Trace}
 use Rattle.runs.specs.Words.{reasons, end_reason}
 use Rattle.runs.specs.declared.outcome.Outcome.{Outcome}
 use Rattle.runs.specs.declared.outcome.Outcome.TheVariants as outcome
-use Rattle.runs.proofs.TraceNumbers.{not_refused, posts_made, kind_done, kind_emptied, kind_overload}
-use Rattle.plan_cli.specs.Lines.{done_line, overload_lines, emptied_line, refused_line}
+use Rattle.runs.proofs.TraceNumbers.{posts_made, kind_done, kind_emptied, kind_overload}
+use Rattle.plan_cli.specs.Lines.{done_line, overload_lines, emptied_line}
 use Rattle.plan_cli.specs.RunLines.{post_lines, end_lines, run_lines, answer_lines}
 use Rattle.plan_cli.specs.RunSlices.{PostsHeld, ShowsRun, Shown}
 
--- `count` posts that the slices hold, with room for them and for `more` atoms, and `rest` after them
-pub record Parts (what : ℕ ⊎ Trace) (posts atoms : List ℤ) (count more : ℕ) (rest : List ℕ) : Type 0 where
+-- `count` posts that the slices hold, and `rest` after them
+pub record Parts (what : ℕ ⊎ Trace) (posts atoms : List ℤ) (count : ℕ) (rest : List ℕ) : Type 0 where
   pub list : List Post
   pub holds : PostsHeld list posts atoms count
   pub text : answer_lines what ≡ post_lines list ++ rest
-  pub few : 44 * length list + 33 * (length (reasons list) + more) ≤ 44 * TASKS + 33 * ATOMS
 
 module _ (posts atoms starts : List ℤ) where
   -- the parts of a run that ended with e
   run_parts : (t : Trace) (r : Outcome) → ShowsRun t r posts atoms starts → (count : ℕ) (e : End) → t.end ≡ e → count ≡ length t.posts
-      → Parts (inr t) posts atoms count (length (end_reason e)) (end_lines e starts)
+      → Parts (inr t) posts atoms count (end_lines e starts)
   unfolding run_lines
   run_parts t r s count e z q = record {
     list = t.posts;
     holds = subst (PostsHeld t.posts posts atoms) (sym q) s.holds;
     text = (λ i. post_lines t.posts ++ end_lines (z i) (sym s.starts_are i));
-    few = subst (λ (x : End). 44 * length t.posts + 33 * (length (reasons t.posts) + length (end_reason x)) ≤ 44 * TASKS + 33 * ATOMS) z (omega (arith, s.few_posts, s.few_atoms));
   }
 
-  pub done_parts : (what : ℕ ⊎ Trace) (count : ℕ) → Shown what (outcome.Done count) posts atoms starts → Parts what posts atoms count 0 (done_line starts) × (length starts ≤ TASKS)
+  pub done_parts : (what : ℕ ⊎ Trace) (count : ℕ) → Shown what (outcome.Done count) posts atoms starts → Parts what posts atoms count (done_line starts)
   done_parts (inl number) count s = let y : ◌≡◌ {A = ℕ} 0 3 = ap (λ (a : Answer). a.kind) s in absurd (omega arith)
-  done_parts (inr t) count s = (
-    run_parts t (outcome.Done count) s count done ((kind_done (outcome.Done count) t s.answer).0 refl) (posts_made (outcome.Done count) t s.answer),
-    omega (arith, ap length s.starts_are, s.few_starts),
-  )
+  done_parts (inr t) count s = run_parts t (outcome.Done count) s count done ((kind_done (outcome.Done count) t s.answer).0 refl) (posts_made (outcome.Done count) t s.answer)
 
-  pub emptied_parts : (what : ℕ ⊎ Trace) (count : ℕ) → Shown what (outcome.Emptied count) posts atoms starts → Parts what posts atoms count 0 emptied_line
+  pub emptied_parts : (what : ℕ ⊎ Trace) (count : ℕ) → Shown what (outcome.Emptied count) posts atoms starts → Parts what posts atoms count emptied_line
   emptied_parts (inl number) count s = let y : ◌≡◌ {A = ℕ} 2 3 = ap (λ (a : Answer). a.kind) s in absurd (omega arith)
   emptied_parts (inr t) count s = run_parts t (outcome.Emptied count) s count emptied ((kind_emptied (outcome.Emptied count) t s.answer).0 refl) (posts_made (outcome.Emptied count) t s.answer)
 
   -- An overload: its reason too, and where its words stand.
   pub record OverloadParts (what : ℕ ⊎ Trace) (count first many : ℕ) : Type 0 where
     pub reason : List Atom
-    pub parts : Parts what posts atoms count many (overload_lines reason)
-    pub inside : 3 * first + 3 * many ≤ length atoms
+    pub parts : Parts what posts atoms count (overload_lines reason)
     pub words : take (3 * many) (drop (3 * first) atoms) ≡ atom_words reason
 
   pub overload_parts : (what : ℕ ⊎ Trace) (count first many : ℕ) → Shown what (outcome.Overload count first many) posts atoms starts → OverloadParts what count first many
@@ -65,12 +58,6 @@ module _ (posts atoms starts : List ℤ) where
       let n = ap (λ (x : End). length (end_reason x)) o.ended in
       record {
         reason = o.reason;
-        parts = subst (λ (k : ℕ). Parts (inr t) posts atoms count k (overload_lines o.reason)) (sym m)
-            (run_parts t (outcome.Overload count first many) s count (overload o.reason) o.ended (posts_made (outcome.Overload count first many) t s.answer));
-        inside = omega (arith, s.end_inside, n, f, m);
+        parts = run_parts t (outcome.Overload count first many) s count (overload o.reason) o.ended (posts_made (outcome.Overload count first many) t s.answer);
         words = (λ i. take (3 * (m ∙ sym n) i) (drop (3 * f i) atoms)) ∙ s.end_words ∙ ap (λ (x : End). atom_words (end_reason x)) o.ended;
       }
-
-  pub refused_part : (what : ℕ ⊎ Trace) (number : ℕ) → Shown what (outcome.Refused number) posts atoms starts → answer_lines what ≡ refused_line number
-  refused_part (inl n) number s = ap refused_line (sym (ap (λ (a : Answer). a.number) s))
-  refused_part (inr t) number s = let y : 3 < 3 = not_refused (outcome.Refused number) t s.answer in absurd (omega arith)

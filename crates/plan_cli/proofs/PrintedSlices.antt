@@ -2,11 +2,12 @@
 use mathlib.Core.Path.{◌≡◌, refl, sym, ap, subst, ◌∙◌}
 use mathlib.Core.Bool.{true}
 use mathlib.Core.List.{List, ◌++◌}
-use mathlib.Core.Logic.{inl, inr}
+use mathlib.Core.Logic.{inr}
 use Prim.Native.Nat.{ℕ, zero, suc, ◌+◌, ◌*◌, ◌≤◌}
 use native.Mathlib.Omega.{arith}
 use lib.IntN.{ℤ}
 use lib.ListN.{length, take, drop, length-append}
+use Rattle.std.specs.Prelude.{Ok}
 use Rattle.integers.specs.Answers.{refused_by}
 use Rattle.integers.specs.Limits.{TASKS, ATOMS}
 use Rattle.integers.specs.Tests.{refusal}
@@ -19,7 +20,6 @@ use Rattle.runs.proofs.WrittenSlices.{posts_length}
 use Rattle.runs.proofs.PostReaders.{end_reader}
 use Rattle.records.specs.declared.record.DisjunctivePropagator.{DisjunctivePropagator}
 use Rattle.records.specs.declared.record.Created.{Created}
-use Rattle.records.specs.declared.record.Creation.TheVariants as creation
 use Rattle.records.specs.Records.{creation_tests, number_of_creation, new_record, created, Creates}
 use Rattle.records.specs.Refusals.{run_number}
 use Rattle.records.proofs.CreationNumbers.{created_as}
@@ -69,16 +69,7 @@ module _ (es ls ds : List ℤ) (r : Created) (creates : Creates ds r) where
   made : r ≡ created ds
   made = created_as creates
 
-  pub accepted_planned : r.answer ≡ creation.Accepted → ran_on r.«record» es ls ≡ planned es ls ds
+  pub accepted_planned : r.answer ≡ Ok tt → ran_on r.«record» es ls ≡ planned es ls ds
   accepted_planned h =
       let z : refusal (creation_tests ds) ≡ 0 = sym creates.number ∙ ap number_of_creation h in
       ap (λ (x : Created). ran_on x.«record» es ls) (made ∙ created_new ds z) ∙ ap (λ (k : ℕ). numbered k (ran_on (new_record ds) es ls)) (sym z)
-
-  pub refused_planned : (number : ℕ) → r.answer ≡ creation.Refused number → inl number ≡ planned es ls ds
-  refused_planned number h = by (refusal (creation_tests ds)) refl
-    where
-      by : (k : ℕ) → refusal (creation_tests ds) ≡ k → inl number ≡ planned es ls ds
-      by zero z = let e : creation.Refused number ≡ creation.Accepted = sym h ∙ ap (λ (x : Created). x.answer) (made ∙ created_new ds z) in let y : ◌≡◌ {A = ℕ} 0 1 = cc in absurd (omega arith)
-      by (suc k) z =
-          let q : number ≡ suc k = ap number_of_creation (sym h) ∙ creates.number ∙ z in
-          ap inl q ∙ ap (λ (j : ℕ). numbered j (ran_on (new_record ds) es ls)) (sym z)

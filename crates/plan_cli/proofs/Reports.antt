@@ -19,7 +19,7 @@ use Rattle.text.proofs.PutBytes.{puts_append}
 use Rattle.plan_cli.specs.Lines.{post_line, lines, why_lines}
 use Rattle.plan_cli.specs.RunLines.{post_of}
 use Rattle.plan_cli.specs.RunSlices.{PostHeld, PostsHeld, Posts}
-use Rattle.plan_cli.proofs.RunLines.{puts_as, puts_first, puts_next, puts_all}
+use Rattle.plan_cli.proofs.RunLines.{puts_as, puts_first, puts_next}
 
 -- a post's line, whose words come back from their bits, and its reason
 pub puts_posted : {o₀ o₁ o₂ : List ℕ} {a₀ a₁ a₂ : ℕ} {x y : ℤ} (posts atoms words : List ℤ) (count j : ℕ) → x ≡ word_of_task posts j → y ≡ bound_of posts j → words ≡ reason_words posts atoms count j
@@ -58,7 +58,3 @@ module _ (out₀ : List ℕ) (posts atoms : List ℤ) (count : ℕ) where
       puts = λ ps h. puts_next post_of no_post ps j (omega (arith, h.many)) (r.puts ps h) (put (get_or ps j no_post) (h.each j q));
       within = λ ps h. let s = reasons_suc ps j (omega (arith, h.many)) in let w = r.within ps h in let l = long ps h q in rw (add-one j) (omega arith);
     }
-
-    pub reached_all : count ≤ j → ((ps : List Post) → PostsHeld ps posts atoms count → Puts out₀ out 0 (lines post_of ps) end)
-        × ((ps : List Post) → PostsHeld ps posts atoms count → j ≤ count → end ≤ 44 * length ps + 33 * length (reasons ps))
-    reached_all q = (λ ps h. puts_all post_of no_post ps j (omega (arith, h.many)) (r.puts ps h), λ ps h s. omega (arith, h.many, r.within ps h, reasons_most ps j))

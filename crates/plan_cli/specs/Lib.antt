@@ -3,6 +3,9 @@ pub mod InputCount
 pub mod RunLines
 pub mod RunSlices
 pub mod Printed
+pub mod Columns
+pub mod Unread
+pub mod InputTasks
 pub mod Streams
 pub mod Inputs
 pub mod Examples

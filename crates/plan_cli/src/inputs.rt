@@ -1,31 +1,25 @@
-// Several inputs in one text, each ended by a '%': where one ends, and its answer, with a '%' on a line after it.
-ghost use Rattle.std.specs.Prelude.{◌≡◌, ◌+◌, ◌≤◌, length, drop};
-ghost use Rattle.plan_cli.specs.Inputs.{first_mark};
+// Several inputs in one text, each ended by a '%'.
+ghost use Rattle.std.specs.Prelude.{◌≤◌, length};
 
-use crate::stdout::write_first;
+use crate::answerer::{Answerer, print};
+use crate::stdin::read_full;
 use std::io;
-use std::io::Write;
+use std::io::{Read, Write};
 
-// The place of the first '%' from `from` on, or the end.
-pub fn end_of(inputs: &[u8], from: usize) -> usize
-    requires { from ≤ length inputs.now }
-    ensures place { result ≡ from + first_mark (drop from inputs.now) }
-    ensures within { (from ≤ result) × (result ≤ length inputs.now) }
+// Answers each input of a text, and writes a '%' on a line after each answer. The text is read into one buffer, and an answer is put into the other.
+pub fn answer_each<A: Answerer, R: Read, W: Write>(
+    input: &mut R,
+    output: &mut W,
+    text: &mut [u8],
+    out: &mut [u8],
+) -> io::Result<()>
+    requires { A.room ≤ length out.old }
 {
-    let mut i = from;
-    while i < inputs.len() {
-        if inputs[i] == b'%' {
-            return i;
-        }
-        i += 1;
+    let read = read_full(input, text);
+    for one in text[..read].split_inclusive(|byte| *byte == b'%') {
+        let n = print::<A>(out, one.strip_suffix(b"%").unwrap_or(one));
+        output.write_all(&out[..n])?;
+        output.write_all(b"%\n")?;
     }
-    i
-}
-
-// Writes the answer, and the mark after it.
-pub fn write_answer<W: Write>(output: &mut W, out: &[u8], n: usize) -> io::Result<()>
-    requires { n ≤ length out.now }
-{
-    write_first(output, out, n)?;
-    output.write_all(b"%\n")
+    Ok(())
 }

@@ -1,7 +1,7 @@
-// The program `plan`: its input as numbers, the run, and what is printed, to the byte.
+// The program `plan`: its input as numbers, the run, and what is printed, to the byte. Other programs read their input and answer it in the same way.
 #![tactic(auto)]
 
-mod answer;
+pub mod answerer;
 pub mod input;
 pub mod inputs;
 pub mod lines;
@@ -9,4 +9,4 @@ mod plan;
 pub mod program;
 mod report;
 pub mod stdin;
-pub mod stdout;
+pub mod tasks;

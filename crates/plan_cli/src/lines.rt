@@ -14,7 +14,7 @@ fn put_sign(out: &mut [u8], at: usize, kind: i32) -> usize
     ensures text { Puts out.old out.new at (sign kind) result }
     ensures within { result ≡ at + 4 }
 {
-    if integers::numbers::at_most(kind, 0) {
+    if kind <= 0 {
         return put_bytes(out, at, b" >= ");
     }
     put_bytes(out, at, b" <= ")
@@ -66,8 +66,7 @@ pub fn put_reason(out: &mut [u8], at: usize, words: &[i32]) -> usize
 {
     let n = atoms_in(words);
     let mut end = at;
-    let mut k = 0;
-    while k < n {
+    for k in 0..n {
         end = put_why(
             out,
             end,
@@ -75,7 +74,6 @@ pub fn put_reason(out: &mut [u8], at: usize, words: &[i32]) -> usize
             words[kind_at(k)],
             words[value_at(k)],
         );
-        k += 1;
     }
     end
 }
@@ -97,10 +95,8 @@ pub fn put_starts(out: &mut [u8], at: usize, starts: &[i32]) -> usize
     ensures within { result ≤ at + 12 * length starts.now }
 {
     let mut end = at;
-    let mut i = 0;
-    while i < starts.len() {
-        end = put_spaced(out, end, starts[i]);
-        i += 1;
+    for start in starts {
+        end = put_spaced(out, end, *start);
     }
     end
 }

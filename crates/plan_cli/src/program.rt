@@ -1,35 +1,53 @@
-// The program: its input is read to the end, and the answer is written to its output. Only reading and writing is assumed.
-ghost use Rattle.std.specs.Prelude.{List, ℕ, ◌≤◌, OnOk, length};
-ghost use Rattle.std.specs.Io.KnownBytes.{Consumes};
-ghost use Rattle.plan_cli.specs.RunSlices.{ROOM};
-ghost use Rattle.plan_cli.specs.Printed.{printed, TextWritten};
+// The program `plan`: an input's tasks are planned, and the run is printed; or the number that refused it.
+ghost use Rattle.std.specs.Prelude.{OnOk};
+ghost use Rattle.plan_cli.specs.Printed.{printed};
 ghost use Rattle.plan_cli.specs.Streams.{Answers};
 
-use crate::answer::put_answer;
-use crate::stdin::read_numbers;
-use crate::stdout::write_first;
+use crate::answerer;
+use crate::answerer::Answerer;
+use crate::lines::put_refused;
+use crate::plan::plan;
+use crate::report::put_run;
+use crate::tasks::Tasks;
+use integers::limits::{ATOMWORDS, POSTWORDS, TASKS};
 use std::io;
 use std::io::{Read, Write};
-use text::reading::numbers_of;
+use text::reading::Numbers;
 
 // Bytes for the lines of any run.
 pub const ROOM: usize = 160000;
 
-// What is printed for a text that is at hand whole.
-pub fn print(out: &mut [u8], text: &[u8]) -> usize
-    requires { ROOM ≤ length out.old }
-    ensures { TextWritten out.new result (printed text.now) }
-{
-    put_answer(out, numbers_of(text))
-}
+// What the program answers.
+pub struct Plan;
 
-// What is printed for the text that is read.
-fn answer_input<R: Read>(input: &mut R, out: &mut [u8]) -> usize
-    requires { ROOM ≤ length out.old }
-    ensures { (text : List ℕ) × TextWritten out.new result (printed text)
-        × Consumes (R.remaining input.old) (R.remaining input.new) text }
-{
-    put_answer(out, read_numbers(input))
+impl Answerer for Plan {
+    ghost use Rattle.plan_cli.specs.RunLines.{answer_lines};
+    ghost use Rattle.plan_cli.specs.Printed.{answered};
+    ghost use Rattle.plan_cli.specs.RunSlices as run_slices;
+
+    ghost answer = { λ xs. answer_lines (answered xs) };
+
+    ghost room = { run_slices.ROOM };
+
+    fn put(out: &mut [u8], numbers: Numbers) -> usize {
+        let tasks = match Tasks::read(numbers) {
+            Ok(tasks) => tasks,
+            Err(why) => return put_refused(out, 0, why.number()),
+        };
+        let mut starts = [0i32; TASKS];
+        let starts = &mut starts[..tasks.count()];
+        starts.copy_from_slice(tasks.earliest());
+        let mut posts = [0i32; POSTWORDS];
+        let mut atoms = [0i32; ATOMWORDS];
+        let outcome = plan(
+            starts,
+            tasks.latest(),
+            tasks.durations(),
+            &mut posts,
+            &mut atoms,
+        );
+        put_run(out, outcome, &posts, &atoms, starts)
+    }
 }
 
 // The whole program: what is written is the answer to the text that was read.
@@ -37,7 +55,5 @@ pub fn run<R: Read, W: Write>(input: &mut R, output: &mut W) -> io::Result<()>
     ensures { OnOk result (Answers printed (R.remaining input.old) (R.remaining input.new)
         (W.contents output.old) (W.contents output.new)) }
 {
-    let mut out = [0u8; ROOM];
-    let n = answer_input(input, &mut out);
-    write_first(output, &out, n)
+    answerer::run::<Plan, R, W>(input, output, &mut [0u8; ROOM])
 }

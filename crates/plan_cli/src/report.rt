@@ -11,7 +11,7 @@ ghost use Rattle.plan_cli.specs.RunLines.{post_of, post_lines, answer_lines};
 ghost use Rattle.plan_cli.specs.RunSlices.{PostHeld, PostsHeld, Posts, Shown, Printable};
 
 use crate::lines::{put_post, put_reason, put_refused, put_starts};
-use post_words::{bound_word, post_reason, stretch, task_word};
+use post_words::{post_reason, read_post, stretch};
 use runs::outcome::Outcome;
 use text::writing::put_bytes;
 
@@ -29,7 +29,8 @@ fn put_posted(
         → Puts out.old out.new at (post_of p) result }
     ensures within { result ≤ at + 44 + 11 * length (reason_words posts.now atoms.now count j) }
 {
-    let end = put_post(out, at, task_word(posts, j), bound_word(posts, j));
+    let post = read_post(posts, j);
+    let end = put_post(out, at, post.task, post.bound);
     put_reason(out, end, post_reason(posts, atoms, count, j))
 }
 
@@ -42,10 +43,8 @@ fn put_posts(out: &mut [u8], posts: &[i32], atoms: &[i32], count: usize) -> usiz
         → result ≤ 44 * length ps + 33 * length (reasons ps) }
 {
     let mut end = 0;
-    let mut j = 0;
-    while j < count {
+    for j in 0..count {
         end = put_posted(out, end, posts, atoms, count, j);
-        j += 1;
     }
     end
 }
@@ -102,6 +101,6 @@ pub fn put_run(
             let end = put_posts(out, posts, atoms, count);
             put_bytes(out, end, b"emptied\n")
         }
-        Outcome::Refused(number) => put_refused(out, 0, number),
+        Outcome::Refused(why) => put_refused(out, 0, why.number()),
     }
 }

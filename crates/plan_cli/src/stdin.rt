@@ -8,13 +8,6 @@ ghost use Rattle.text.specs.Scanner.{step_of, gathered};
 use std::io::Read;
 use text::reading::{Numbers, Scanner};
 
-// The scanner after one read, and whether the input goes on.
-#[derive(Clone, Copy)]
-pub struct Piece {
-    pub scanner: Scanner,
-    pub more: bool,
-}
-
 // Reads once, and answers how many bytes it put at the buffer's start: none at the input's end, and none where the read fails.
 fn read_some<R: Read>(input: &mut R, buffer: &mut [u8]) -> usize
     ensures within { result ≤ length buffer.new }
@@ -26,32 +19,18 @@ fn read_some<R: Read>(input: &mut R, buffer: &mut [u8]) -> usize
     }
 }
 
-// Reads once. The scanner has gone over some bytes; where the input's bytes are known, they are the next of them.
-fn read_piece<R: Read>(input: &mut R, scanner: Scanner) -> Piece
-    ensures { (bytes : List ℕ) × (result.scanner ≡ foldl step_of scanner bytes)
-        × Consumes (R.remaining input.old) (R.remaining input.new) bytes }
-{
-    let mut buffer = [0u8; 4096];
-    let n = read_some(input, &mut buffer);
-    Piece {
-        scanner: scanner.feed(&buffer[..n]),
-        more: n > 0,
-    }
-}
-
-// The numbers of the whole input. A loop must end, so its turns are counted down from more than any input takes.
+// The numbers of the whole input. A loop must end, so its turns are counted to more than any input takes.
 pub fn read_numbers<R: Read>(input: &mut R) -> Numbers
     ensures { (text : List ℕ) × (result ≡ gathered (numbers_in text))
         × Consumes (R.remaining input.old) (R.remaining input.new) text }
 {
+    let mut buffer = [0u8; 4096];
     let mut scanner = Scanner::new();
-    let mut turns = u64::MAX;
-    while turns > 0 {
-        let piece = read_piece(input, scanner);
-        scanner = piece.scanner;
-        turns -= 1;
-        if !piece.more {
-            turns = 0;
+    for _ in 0..u64::MAX {
+        let n = read_some(input, &mut buffer);
+        scanner = scanner.feed(&buffer[..n]);
+        if n == 0 {
+            break;
         }
     }
     scanner.finish()

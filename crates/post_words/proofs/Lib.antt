@@ -1,2 +1,3 @@
 pub mod PostReader
 pub mod StoredAtoms
+pub mod TriedWords

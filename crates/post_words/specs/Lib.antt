@@ -1,3 +1,4 @@
+pub mod Kinds
 pub mod Posts
 pub mod Examples
 pub mod StoredAtoms

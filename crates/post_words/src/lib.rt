@@ -1,23 +1,40 @@
 // Posts and atoms as words: the place of each word, what writes them, and the post reader. It answers 0 or 11, and the stretch of atoms of a post.
 #![tactic(auto)]
 
-ghost use Rattle.std.specs.Prelude.{◌≡◌, [], ◌∷◌, ◌+◌, ◌*◌, ◌/◌, ◌^◌, ◌<◌, ◌≤◌, pos, nat_abs, length, take, drop, ◌≤ℤ◌};
+ghost use Rattle.std.specs.Prelude.{◌≡◌, [], ◌∷◌, ◌+◌, ◌*◌, ◌/◌, ◌^◌, ◌<◌, ◌≤◌, pos, length, take, drop, MatchOption};
 ghost use Rattle.std.proofs.lemmas.List.Edits.{sets};
 ghost use Rattle.integers.specs.Limits.{TASKS};
 ghost use Rattle.integers.specs.Moments.{instant, zero_at};
+ghost use Rattle.integers.specs.Refused.{POST};
+ghost use Rattle.post_words.specs.Kinds.{kind_of};
 ghost use Rattle.post_words.specs.Posts.{task_place, bound_at, variable_place, kind_at, value_at, words_of, word_of_task, bound_of, first_atom_of, count_of_atoms, PostFits};
 ghost use Rattle.post_words.specs.Posts.{number_of_post, reason_words};
 
 use integers::moments::start_of;
-use integers::numbers::{nat_of, word_of};
-use integers::refused;
+use integers::numbers::word_of;
+use integers::refused::Refusal;
 
-// An atom's kinds.
-pub const AT_LEAST: i32 = 0;
+// What an atom of a reason says of its variable: at least, or at most, its value.
+#[derive(Clone, Copy, Debug, PartialEq, Eq)]
+pub enum AtomKind {
+    AtLeast,
+    AtMost,
+}
 
-pub const AT_MOST: i32 = 1;
+impl AtomKind {
+    // The kind as an atom's word.
+    pub fn word(self) -> i32
+        ensures { result ≡ pos (kind_of self) }
+    {
+        match self {
+            AtomKind::AtLeast => 0,
+            AtomKind::AtMost => 1,
+        }
+    }
+}
 
-// The place of post j's first word, its task, and the place of its bound.
+// The place of post j's first word, its task, and the place of its bound. As with an atom's places below, one function for all would take a name of the
+// word beside j, and be no plainer where it is called.
 pub fn task_at(j: usize) -> usize
     requires { 4 * j + 4 < 2 ^ 64 }
     ensures { result ≡ task_place j }
@@ -99,71 +116,73 @@ pub fn write_post(posts: &mut [i32], j: usize, task: usize, bound: u32, first: u
 }
 
 // The k-th atom's three words: its variable is a task, its value the whole number at a moment.
-pub fn write_atom(atoms: &mut [i32], k: usize, task: usize, kind: i32, value: u32)
+pub fn write_atom(atoms: &mut [i32], k: usize, task: usize, kind: AtomKind, value: u32)
     requires { (3 * k + 3 ≤ length atoms.old) × (task < TASKS) }
-    ensures { atoms.new ≡ sets atoms.old (3 * k) (pos task ∷ kind ∷ instant zero_at value ∷ []) }
+    ensures { atoms.new ≡ sets atoms.old (3 * k) (pos task ∷ pos (kind_of kind) ∷ instant zero_at value ∷ []) }
 {
     let at = 3 * k;
     atoms[at] = word_of(task);
-    atoms[at + 1] = kind;
+    atoms[at + 1] = kind.word();
     atoms[at + 2] = start_of(value);
 }
 
-// The task and the bound of a post that is inside its slice.
-pub fn task_word(posts: &[i32], index: usize) -> i32
+// The words of a post: its task, its bound, the number of its first atom, and how many atoms it has.
+#[derive(Clone, Copy)]
+pub struct Post {
+    pub task: i32,
+    pub bound: i32,
+    pub first: i32,
+    pub count: i32,
+}
+
+// A post that is inside its slice.
+pub fn read_post(posts: &[i32], index: usize) -> Post
     requires { 4 * index + 4 ≤ length posts.now }
-    ensures { result ≡ word_of_task posts.now index }
+    ensures task { result.task ≡ word_of_task posts.now index }
+    ensures bound { result.bound ≡ bound_of posts.now index }
+    ensures first { result.first ≡ first_atom_of posts.now index }
+    ensures count { result.count ≡ count_of_atoms posts.now index }
 {
-    posts[4 * index]
+    let at = 4 * index;
+    Post {
+        task: posts[at],
+        bound: posts[at + 1],
+        first: posts[at + 2],
+        count: posts[at + 3],
+    }
 }
 
-pub fn bound_word(posts: &[i32], index: usize) -> i32
-    requires { 4 * index + 4 ≤ length posts.now }
-    ensures { result ≡ bound_of posts.now index }
+// The post's part of the atom words, where the post is below the post count, and it and its part are inside their slices.
+fn part_of<'a, 'b>(
+    posts: &'a [i32],
+    atoms: &'b [i32],
+    post_count: usize,
+    index: usize,
+) -> Option<&'b [i32]>
+    ensures { MatchOption result (number_of_post posts.now atoms.now post_count index ≡ POST)
+        (λ part. (number_of_post posts.now atoms.now post_count index ≡ 0) × (part.now ≡ reason_words posts.now atoms.now post_count index)) }
 {
-    posts[4 * index + 1]
-}
-
-// The number of its first atom, and how many atoms it has.
-pub fn first_atom(posts: &[i32], index: usize) -> u32
-    requires { (4 * index + 4 ≤ length posts.now) × (pos 0 ≤ℤ first_atom_of posts.now index) }
-    ensures { result ≡ nat_abs (first_atom_of posts.now index) }
-{
-    nat_of(posts[4 * index + 2])
-}
-
-pub fn atom_count(posts: &[i32], index: usize) -> u32
-    requires { (4 * index + 4 ≤ length posts.now) × (pos 0 ≤ℤ count_of_atoms posts.now index) }
-    ensures { result ≡ nat_abs (count_of_atoms posts.now index) }
-{
-    nat_of(posts[4 * index + 3])
+    if index >= post_count || index >= posts.len() / 4 {
+        return None;
+    }
+    let post = read_post(posts, index);
+    let first = usize::try_from(post.first).ok()?;
+    let count = usize::try_from(post.count).ok()?;
+    atoms.get(words_of(first)..words_of(first + count))
 }
 
 // 11 where the post is not below the post count, or it or its stretch is not inside its slice; else 0.
 pub fn post_number(posts: &[i32], atoms: &[i32], post_count: usize, index: usize) -> u32
     ensures { result ≡ number_of_post posts.now atoms.now post_count index }
 {
-    if index >= post_count {
-        return refused::POST;
+    match part_of(posts, atoms, post_count, index) {
+        Some(_) => 0,
+        None => Refusal::Post.number(),
     }
-    if index >= posts.len() / 4 {
-        return refused::POST;
-    }
-    if !integers::numbers::at_most(0, posts[4 * index + 2]) {
-        return refused::POST;
-    }
-    if !integers::numbers::at_most(0, posts[4 * index + 3]) {
-        return refused::POST;
-    }
-    let first = first_atom(posts, index) as usize;
-    let count = atom_count(posts, index) as usize;
-    if words_of(first) + words_of(count) > atoms.len() {
-        return refused::POST;
-    }
-    0
 }
 
 // The post's part of the atom words, or none where the number is 11.
+#[tactic(auto, using(crate::proofs::PostReader::reason_none))]
 pub fn post_reason<'a, 'b>(
     posts: &'a [i32],
     atoms: &'b [i32],
@@ -172,10 +191,8 @@ pub fn post_reason<'a, 'b>(
 ) -> &'b [i32]
     ensures { result.now ≡ reason_words posts.now atoms.now post_count index }
 {
-    if post_number(posts, atoms, post_count, index) != 0 {
-        return &atoms[..0];
+    match part_of(posts, atoms, post_count, index) {
+        Some(part) => part,
+        None => &atoms[..0],
     }
-    let first = first_atom(posts, index) as usize;
-    let count = atom_count(posts, index) as usize;
-    stretch(atoms, first, count)
 }

@@ -11,21 +11,22 @@ use lib.ListN.{length, get_or}
 use Rattle.integers.specs.Limits.{TASKS}
 use Rattle.integers.specs.Moments.{moment, zero_at}
 use Rattle.integers.proofs.MomentSums.{mono<}
-use Rattle.scheduling.specs.Scheduling.{whole, Tasks}
+use Rattle.scheduling.specs.Scheduling.{whole, natural, Tasks}
 use Rattle.trees.specs.Ects.{exceeds}
 use Rattle.trees.proofs.Ects.{some_exceeds}
 use Rattle.records.specs.declared.record.DisjunctivePropagator.{DisjunctivePropagator}
 use Rattle.records.specs.Records.{tasks_in, moments_in}
 use Rattle.records.specs.Refusals.{AcceptedInput}
 use Rattle.records.proofs.AcceptedTasks.{count, proper_whole, above}
-use Rattle.precedences.specs.PredecessorArrays.{bound_at, Boundable}
+use Rattle.precedences.specs.declared.range_moments.RangeMoments.{RangeMoments}
+use Rattle.precedences.specs.PredecessorArrays.{bound_at, HoldsRanges}
 use Rattle.precedences.proofs.MomentBounds.{BoundMoment, found, passes}
 use Rattle.precedences.specs.Bounds.{RaisesTo, Raises}
 
 -- the test that the code makes, of the array's start
-pub from_start : {n : ℕ} {est lst durations : List ℕ} (f : Boundable n est lst durations) (i : ℕ) → i < n → {o : Option ℕ} {t b : Bool}
-    → ((f : Boundable n est lst durations) → o ≡ bound_at f.J i) → t ≡ exceeds o (get_or est i 0) → t ≡ b → exceeds (bound_at f.J i) (f.J.earliest i) ≡ b
-from_start f i q z e h = ap₂ exceeds (sym (z f)) (sym (f.held.start i q)) ∙ sym e ∙ h
+pub from_start : {J : Tasks natural} {m : RangeMoments} (f : HoldsRanges J m) (i : ℕ) → i < m.count → {o : Option ℕ} {t b : Bool}
+    → o ≡ bound_at J i → t ≡ exceeds o (get_or m.est i 0) → t ≡ b → exceeds (bound_at J i) (J.earliest i) ≡ b
+from_start f i q z e h = ap₂ exceeds (sym z) (sym (f.held.start i q)) ∙ sym e ∙ h
 
 -- a record and its ranges that are accepted
 module _ (r : DisjunctivePropagator) (es ls : List ℤ) (a : AcceptedInput r es ls) (long : length r.durations ≡ TASKS) (i : ℕ) (q : i < r.count) where

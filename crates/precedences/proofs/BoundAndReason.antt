@@ -6,23 +6,22 @@ use mathlib.Core.Option.{some}
 use Prim.Native.Nat.{ℕ, ◌≤◌}
 use native.Mathlib.Omega.{arith}
 use lib.IntN.{ℤ}
+use Rattle.integers.specs.declared.refused.Refusal.{Refusal}
 use Rattle.integers.specs.Answers.{answered}
 use Rattle.integers.proofs.Answers.{count_at, same_kind, same_count}
 use Rattle.scheduling.specs.Scheduling.{whole, Tasks, Contradicts}
-use Rattle.precedences.specs.declared.reason.Reason.{Reason}
-use Rattle.precedences.specs.declared.reason.BoundAbove.{BoundAbove}
-use Rattle.precedences.specs.declared.reason.BoundAbove.TheVariants as bound
+use Rattle.std.specs.Prelude.{Option, Some, None, Result, Ok, Err}
 use Rattle.precedences.specs.ReasonNumbers.{numbers_of_reason, numbers_of_bound}
 use Rattle.precedences.specs.Bounds.{Raises, BoundAnswered}
 use Rattle.precedences.specs.Reasons.{at_least, reason_of, Explained}
 
 -- an accepted call answers a bound, or nothing raises the task
-one_of : (J : Tasks whole) (i : ℕ) (x : BoundAbove) → BoundAnswered J i x → ((b : ℤ) × (numbers_of_bound x ≡ answered 0 (b ∷ []))) ⊎ (Raises J i → ⊥)
-one_of J i (bound.At b) t = inl (b, refl)
-one_of J i bound.NoBound t = inr (t.none.0 refl)
-one_of J i (bound.Refused number) t = inr (λ w. (let z = same_kind ((t.raised w.0).1 w.1) in omega (arith, z)))
+one_of : (J : Tasks whole) (i : ℕ) (x : Result (Option ℤ) Refusal) → BoundAnswered J i x → ((b : ℤ) × (numbers_of_bound x ≡ answered 0 (b ∷ []))) ⊎ (Raises J i → ⊥)
+one_of J i (Ok (Some b)) t = inl (b, refl)
+one_of J i (Ok None) t = inr (t.none.0 refl)
+one_of J i (Err number) t = inr (λ w. (let z = same_kind ((t.raised w.0).1 w.1) in omega (arith, z)))
 
-module _ (J : Tasks whole) (i : ℕ) (x : BoundAbove) (t : BoundAnswered J i x) {ws ws' : List ℤ} (r : Reason) (e : Explained J i ws r ws') where
+module _ (J : Tasks whole) (i : ℕ) (x : Result (Option ℤ) Refusal) (t : BoundAnswered J i x) {ws ws' : List ℤ} (r : Result ℕ Refusal) (e : Explained J i ws r ws') where
   -- a bound exactly where the reason has atoms
   pub bound_with_atoms : ((b : ℤ) × (numbers_of_bound x ≡ answered 0 (b ∷ []))) ↔ (1 ≤ count_at (numbers_of_reason r) 0)
   bound_with_atoms = (

@@ -3,7 +3,7 @@ use mathlib.Core.Path.{◌≡◌, refl, sym, ap, subst, ◌∙◌}
 use mathlib.Core.Bool.{Bool}
 use mathlib.Core.List.{List}
 use mathlib.Core.Logic.{◌⊎◌, inl, inr}
-use Prim.Native.Nat.{ℕ, ◌≤◌, ◌<◌}
+use Prim.Native.Nat.{ℕ, ◌<◌}
 use native.Mathlib.Omega.{arith}
 use native.Mathlib.Decide.{dec_lt}
 use lib.IntN.{ℤ, pos}
@@ -12,7 +12,7 @@ use lib.ListN.{length, get_or, length-replicate}
 use Rattle.integers.specs.Answers.{refused_by}
 use Rattle.integers.specs.FilledLists.{filled, no_tasks}
 use Rattle.integers.specs.Limits.{TASKS}
-use Rattle.integers.specs.Moments.{instant, zero_at, moment_at}
+use Rattle.integers.specs.Moments.{instant, zero_at}
 use Rattle.integers.proofs.Answers.{same_kind, same_count}
 use Rattle.integers.proofs.FilledLists.{filled_at, filled_length}
 use Rattle.scheduling.specs.Scheduling.{whole, natural, Tasks, Proper, Largest, Schedule}
@@ -22,16 +22,17 @@ use Rattle.records.specs.Refusals.{AcceptedInput, input_number}
 use Rattle.records.proofs.AcceptedTasks.{count, proper_whole, proper, above}
 use Rattle.records.proofs.RefusedRuns.{accepted_input}
 use Rattle.trees.proofs.Ects.{past_by_bound, within_bound}
+use Rattle.std.specs.Prelude.{Some, None}
+use Rattle.precedences.specs.declared.range_moments.RangeMoments.{RangeMoments}
 use Rattle.precedences.specs.Predecessors.{PrecedenceBound}
-use Rattle.precedences.specs.PredecessorArrays.{start_at, bound_at, Boundable}
-use Rattle.precedences.proofs.AcceptedArrays.{boundable}
+use Rattle.precedences.specs.PredecessorArrays.{start_at, bound_at, HoldsRanges}
 use Rattle.precedences.proofs.Soundness.{before_sound, bound_sound}
 use Rattle.precedences.proofs.MomentBounds.{high, passes, fits}
 use Rattle.precedences.specs.declared.answers.Precedences.{Precedences}
 use Rattle.precedences.specs.declared.answers.Precedences.TheVariants.{Done, Emptied}
 use Rattle.precedences.specs.Numbers.{numbers_of_precedences}
 use Rattle.precedences.specs.Precedences.{FirstEmptied, NoneEmptied, LeftPrecedences, RanPrecedences}
-use Rattle.precedences.specs.PassArrays.{raised_there, FirstPast}
+use Rattle.precedences.specs.PassArrays.{raised_there, NonePast, FirstPast}
 use Rattle.precedences.proofs.RaisedStarts.{raised_is}
 
 module _ (J : Tasks whole) (ok : Proper J) where
@@ -75,8 +76,7 @@ module _ (J : Tasks whole) (ok : Proper J) where
   }
 
 -- An accepted pass: what the arrays hold, and how it ends.
-module _ (r : DisjunctivePropagator) (es ls : List ℤ) (a : AcceptedInput r es ls) (long : length r.durations ≡ TASKS) {est lst : List ℕ} (e : est ≡ filled (moment_at es) (length es) no_tasks)
-    (l : lst ≡ filled (moment_at ls) (length ls) no_tasks) where
+module _ (r : DisjunctivePropagator) (es ls : List ℤ) (a : AcceptedInput r es ls) (long : length r.durations ≡ TASKS) {m : RangeMoments} (f : HoldsRanges (moments_in r es ls) m) where
   abbrev Z : Tasks whole
   Z = tasks_in r es ls
 
@@ -86,35 +86,35 @@ module _ (r : DisjunctivePropagator) (es ls : List ℤ) (a : AcceptedInput r es 
   fine : Proper Z
   fine = proper_whole r es ls a long
 
-  small : {k : ℕ} → k < Z.count → k < r.count
-  small q = omega (arith, count r es ls a long)
+  small : {k : ℕ} → k < Z.count → k < m.count
+  small q = omega (arith, f.held.count)
 
-  known : {k : ℕ} → k < r.count → k < Z.count
-  known q = omega (arith, count r es ls a long)
+  known : {k : ℕ} → k < m.count → k < Z.count
+  known q = omega (arith, f.held.count)
 
-  module _ {raised : List ℕ} (z : (f : Boundable r.count est lst r.durations) → raised ≡ filled (raised_there f.J) r.count no_tasks) (i : ℕ) (p : FirstPast raised lst r.count i) where
-    raised_at : (k : ℕ) → k < r.count → get_or raised k 0 ≡ raised_there M k
-    raised_at k q = ap (λ (o : List ℕ). get_or o k 0) (z (boundable r es ls a long e l))
-        ∙ filled_at (raised_there M) r.count no_tasks 0 k q (omega (arith, a.lawful.few, length-replicate {A = ℕ} TASKS 0))
+  module _ {raised : List ℕ} (z : raised ≡ filled (raised_there (moments_in r es ls)) m.count no_tasks) where
+    raised_at : (k : ℕ) → k < m.count → get_or raised k 0 ≡ raised_there M k
+    raised_at k q = ap (λ (o : List ℕ). get_or o k 0) z ∙ filled_at (raised_there M) m.count no_tasks 0 k q (omega (arith, f.held.few, length-replicate {A = ℕ} TASKS 0))
 
-    latest_at : (k : ℕ) → k < r.count → get_or lst k 0 ≡ M.latest k
-    latest_at k q = (boundable r es ls a long e l).late.at k q
+    latest_at : (k : ℕ) → k < m.count → get_or m.lst k 0 ≡ M.latest k
+    latest_at k q = f.late.at k q
 
-    not_past : (k : ℕ) → k < r.count → k < i → (b : ℤ) → PrecedenceBound Z k b → b ≤ℤ Z.latest k
-    not_past k q h = fits Z fine (above r es ls a long) k (known q) (Z.latest k) (high Z fine (above r es ls a long) k (known q))
-        (within_bound (M.earliest k) (M.latest k) (bound_at M k) (omega (arith, p.none_before k h, raised_at k q, latest_at k q)))
+    not_past : {n : ℕ} → NonePast raised m.lst n → (k : ℕ) → k < m.count → k < n → (b : ℤ) → PrecedenceBound Z k b → b ≤ℤ Z.latest k
+    not_past p k q h = fits Z fine (above r es ls a long) k (known q) (Z.latest k) (high Z fine (above r es ls a long) k (known q))
+        (within_bound (M.earliest k) (M.latest k) (bound_at M k) (omega (arith, p k h, raised_at k q, latest_at k q)))
 
-    pub some_past : i < r.count → LeftPrecedences (tasks_in r es ls) es (Emptied i) es
-    some_past q =
+    pub some_past : {i : ℕ} → FirstPast raised m.lst m.count (Some i) → LeftPrecedences (tasks_in r es ls) es (Emptied i) es
+    some_past {i} (q, past, none) =
         let w = passes Z fine (above r es ls a long) i (known q) (Z.latest i) (high Z fine (above r es ls a long) i (known q))
-        (past_by_bound (M.earliest i) (M.latest i) (bound_at M i) ((proper r es ls a long).ranges i (known q)) (omega (arith, p.past q, raised_at i q, latest_at i q))) in
-        ended_emptied Z fine es i (record { small = known q; bound = w.0; is_bound = w.1; passes = w.2; lowest = λ k h. not_past k (omega arith) h })
+        (past_by_bound (M.earliest i) (M.latest i) (bound_at M i) ((proper r es ls a long).ranges i (known q)) (omega (arith, past, raised_at i q, latest_at i q))) in
+        ended_emptied Z fine es i (record { small = known q; bound = w.0; is_bound = w.1; passes = w.2; lowest = λ k h. not_past none k (omega arith) h })
 
-    pub none_past : r.count ≤ i → {es' : List ℤ} → es' ≡ filled (start_at raised) (length es) es → LeftPrecedences (tasks_in r es ls) es Done es'
-    none_past h {es'} y = ended_done Z fine es es' (λ k q. not_past k (small q) (omega (arith, small q))) (ap length y ∙ filled_length (start_at raised) (length es) es) starts
+    pub none_past : FirstPast raised m.lst m.count None → {es' : List ℤ} → es' ≡ filled (start_at raised) (length es) es → LeftPrecedences (tasks_in r es ls) es Done es'
+    none_past none {es'} y = ended_done Z fine es es' (λ k q. not_past none k (small q) (small q)) (ap length y ∙ filled_length (start_at raised) (length es) es) starts
       where
-        start_at_is : (k : ℕ) → k < r.count → get_or es' k (pos 0) ≡ instant zero_at (raised_there M k)
-        start_at_is k q = ap (λ (o : List ℤ). get_or o k (pos 0)) y ∙ filled_at (start_at raised) (length es) es (pos 0) k (omega (arith, a.counts.earliest)) (omega arith)
+        start_at_is : (k : ℕ) → k < m.count → get_or es' k (pos 0) ≡ instant zero_at (raised_there M k)
+        start_at_is k q = ap (λ (o : List ℤ). get_or o k (pos 0)) y
+            ∙ filled_at (start_at raised) (length es) es (pos 0) k (omega (arith, a.counts.earliest, f.held.count, count r es ls a long)) (omega (arith, a.counts.earliest, f.held.count, count r es ls a long))
             ∙ ap (instant zero_at) (raised_at k q)
 
         starts : (k : ℕ) → k < Z.count → Largest whole (λ v. (Z.earliest k ≡ v) ⊎ PrecedenceBound Z k v) (get_or es' k (pos 0))

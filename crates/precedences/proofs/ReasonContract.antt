@@ -8,12 +8,13 @@ use native.Mathlib.Omega.{arith}
 use lib.IntN.{ℤ, pos}
 use lib.Signed.{◌≤ℤ◌}
 use lib.ListN.{length, get_or, replicate}
-use borrow.Author.Tests.{not-true, not-false, eq-eqb}
+use borrow.Author.Tests.{eq-eqb}
 use lib.Seq.{sets}
+use Rattle.integers.specs.declared.refused.Refusal.{Refusal}
 use Rattle.integers.specs.Answers.{answered, refused_by}
-use Rattle.integers.specs.FilledLists.{filled, no_tasks}
+use Rattle.integers.specs.FilledLists.{filled}
 use Rattle.integers.specs.Limits.{TASKS}
-use Rattle.integers.specs.Moments.{instant, zero_at, moment_at}
+use Rattle.integers.specs.Moments.{instant, zero_at}
 use Rattle.integers.specs.Words.{overwritten}
 use Rattle.integers.proofs.Bools.{clash}
 use Rattle.integers.proofs.MomentSums.{instant_moment}
@@ -30,12 +31,12 @@ use Rattle.records.specs.Records.{tasks_in, moments_in}
 use Rattle.records.specs.Refusals.{AcceptedInput}
 use Rattle.records.proofs.AcceptedTasks.{count, proper_whole, above}
 use Rattle.precedences.specs.Predecessors.{predecessors, AllBefore, PrecedenceBound}
-use Rattle.precedences.specs.PredecessorArrays.{start_at, precedes_at, comes_before, bound_at, Boundable}
+use Rattle.precedences.specs.PredecessorArrays.{start_at, precedes_at, comes_before, bound_at, HoldsRanges}
 use Rattle.precedences.proofs.MomentBounds.{high, same_tasks}
-use Rattle.precedences.proofs.AcceptedArrays.{boundable, chosen}
+use Rattle.precedences.proofs.AcceptedArrays.{chosen}
 use Rattle.precedences.proofs.Soundness.{all_before, bound_holds}
-use Rattle.precedences.specs.declared.reason.Reason.{Reason}
-use Rattle.precedences.specs.declared.reason.Reason.TheVariants.{Written}
+use Rattle.std.specs.Prelude.{Result, Ok}
+use Rattle.precedences.specs.declared.range_moments.RangeMoments.{RangeMoments}
 use Rattle.precedences.specs.ReasonNumbers.{numbers_of_reason}
 use Rattle.precedences.specs.Bounds.{Raises}
 use Rattle.precedences.specs.Reasons.{at_least, at_most, both_of, both_bounds, reason_of, Explained, AcceptedReason, reason_number, ReasonGiven}
@@ -91,59 +92,51 @@ module _ (J : Tasks whole) (i : ℕ) (q : i < J.count) where
     bounded ok = bound_holds J ok s c.apart i q from ranges
 
   -- the contract from the words that are written
-  pub explained : Proper J → (ws : List ℤ) (r : Reason) (ws' : List ℤ)
+  pub explained : Proper J → (ws : List ℤ) (r : Result ℕ Refusal) (ws' : List ℤ)
       → (Raises J i → (numbers_of_reason r ≡ answered 0 (pos (length (reason_of J i)) ∷ [])) × (ws' ≡ overwritten ws (atom_words (reason_of J i))))
       → ((Raises J i → ⊥) → (numbers_of_reason r ≡ answered 0 (pos 0 ∷ [])) × (ws' ≡ ws)) → Explained J i ws r ws'
   explained ok ws r ws' w n = record { written = w; nothing = n; few = few; holds = holds; before = λ s c. first s c; sound = λ b e s c. c.consequent_not (bounded s c ok b e) }
 
 -- where the bound raises nothing
-pub nothing_left : {n : ℕ} {est lst durations : List ℕ} (f : Boundable n est lst durations) (i : ℕ) → i < n → {l : List ℤ} {o : Option ℕ} {t : Bool}
-    → ((f : Boundable n est lst durations) → o ≡ bound_at f.J i) → t ≡ exceeds o (get_or est i 0) → not t ≡ true → ReasonLeft f.J i l 0 l
-nothing_left f i q b e h = record { written = λ k. clash k (from_start f i q b e (not-true _ h)); nothing = λ _. (refl, refl) }
+pub nothing_left : {J : Tasks natural} {m : RangeMoments} (f : HoldsRanges J m) (i : ℕ) → i < m.count → {l : List ℤ} {o : Option ℕ} {t : Bool}
+    → o ≡ bound_at J i → t ≡ exceeds o (get_or m.est i 0) → t ≡ false → ReasonLeft J i l 0 l
+nothing_left f i q b e h = record { written = λ k. clash k (from_start f i q b e h); nothing = λ _. (refl, refl) }
 
 -- The atoms that the arrays give.
-module _ {n : ℕ} {est lst durations : List ℕ} (f : Boundable n est lst durations) (i : ℕ) (q : i < n) {before : List Bool}
-    (e : before ≡ filled (precedes_at est lst durations i) n (replicate TASKS false)) where
-  abbrev N : Tasks natural
-  N = f.J
-
-  members_are : both_bounds (start_at est) (start_at lst) (member_at before) n ≡ both_bounds (λ k. instant zero_at (N.earliest k)) (λ k. instant zero_at (N.latest k)) (comes_before N i) N.count
+module _ {J : Tasks natural} {m : RangeMoments} (f : HoldsRanges J m) (i : ℕ) (q : i < m.count) {before : List Bool} (e : before ≡ filled (precedes_at m i) m.count (replicate TASKS false)) where
+  members_are : both_bounds (start_at m.est) (start_at m.lst) (member_at before) m.count
+      ≡ both_bounds (λ k. instant zero_at (J.earliest k)) (λ k. instant zero_at (J.latest k)) (comes_before J i) J.count
   members_are =
-      both_same (start_at est) (λ k. instant zero_at (N.earliest k)) (start_at lst) (λ k. instant zero_at (N.latest k)) (member_at before) (comes_before N i) n
+      both_same (start_at m.est) (λ k. instant zero_at (J.earliest k)) (start_at m.lst) (λ k. instant zero_at (J.latest k)) (member_at before) (comes_before J i) m.count
       (λ k r. ap (instant zero_at) (f.held.start k r)) (λ k r. ap (instant zero_at) (f.late.at k r)) (chosen f i q e).member
-      ∙ ap (both_bounds (λ k. instant zero_at (N.earliest k)) (λ k. instant zero_at (N.latest k)) (comes_before N i)) (sym f.held.count)
+      ∙ ap (both_bounds (λ k. instant zero_at (J.earliest k)) (λ k. instant zero_at (J.latest k)) (comes_before J i)) (sym f.held.count)
 
   own_out : member_at before i ≡ false
   own_out = (chosen f i q e).member i q ∙ rw (eq-eqb i i refl)
 
-  pub members_fit : (size : ℕ) → 6 * n ≤ size → 3 * (1 + length (both_bounds (start_at est) (start_at lst) (member_at before) n)) ≤ size
-  members_fit size h = omega (arith, fewer (start_at est) (start_at lst) (member_at before) i n q own_out)
+  pub members_fit : (size : ℕ) → 6 * m.count ≤ size → 3 * (1 + length (both_bounds (start_at m.est) (start_at m.lst) (member_at before) m.count)) ≤ size
+  members_fit size h = omega (arith, fewer (start_at m.est) (start_at m.lst) (member_at before) i m.count q own_out)
 
-  pub reason_left : {l m o : List ℤ} {r : ℕ} {b : Option ℕ} {u : Bool} → ((f : Boundable n est lst durations) → b ≡ bound_at f.J i) → u ≡ exceeds b (get_or est i 0) → not u ≡ false
-      → m ≡ sets l (3 * 0) (pos i ∷ pos 0 ∷ instant zero_at (get_or est i 0) ∷ [])
-      → Stored m o 1 r (both_bounds (start_at est) (start_at lst) (member_at before) n) → ReasonLeft f.J i l r o
-  reason_left {l} {m} {o} {r} z g h p t =
-      let s : Stored l o 0 r (at_least i (instant zero_at (get_or est i 0)) ∷ both_bounds (start_at est) (start_at lst) (member_at before) n) =
-      stored_then (atom_stored (at_least i (instant zero_at (get_or est i 0))) p) t in
-      let own : instant zero_at (get_or est i 0) ≡ instant zero_at (N.earliest i) = ap (instant zero_at) (f.held.start i q) in
-      record { written = λ _. rw (own, members_are) at s; nothing = λ k. clash (from_start f i q z g (not-false _ h)) k }
+  pub reason_left : {l o o' : List ℤ} {r : ℕ} {b : Option ℕ} {u : Bool} → b ≡ bound_at J i → u ≡ exceeds b (get_or m.est i 0) → u ≡ true
+      → o ≡ sets l (3 * 0) (pos i ∷ pos 0 ∷ instant zero_at (get_or m.est i 0) ∷ [])
+      → Stored o o' 1 r (both_bounds (start_at m.est) (start_at m.lst) (member_at before) m.count) → ReasonLeft J i l r o'
+  reason_left {l} {o} {o'} {r} z g h p t =
+      let s : Stored l o' 0 r (at_least i (instant zero_at (get_or m.est i 0)) ∷ both_bounds (start_at m.est) (start_at m.lst) (member_at before) m.count) =
+      stored_then (atom_stored (at_least i (instant zero_at (get_or m.est i 0))) p) t in
+      let own : instant zero_at (get_or m.est i 0) ≡ instant zero_at (J.earliest i) = ap (instant zero_at) (f.held.start i q) in
+      record { written = λ _. rw (own, members_are) at s; nothing = λ k. clash (from_start f i q z g h) k }
 
 -- The accepted call.
-module _ (r : DisjunctivePropagator) (es ls : List ℤ) (a : AcceptedInput r es ls) (long : length r.durations ≡ TASKS) {est lst : List ℕ} (e : est ≡ filled (moment_at es) (length es) no_tasks)
-    (l : lst ≡ filled (moment_at ls) (length ls) no_tasks) (i : ℕ) where
+module _ (r : DisjunctivePropagator) (es ls : List ℤ) (a : AcceptedInput r es ls) (long : length r.durations ≡ TASKS) (i : ℕ) where
   abbrev Z : Tasks whole
   Z = tasks_in r es ls
 
   abbrev M : Tasks natural
   M = moments_in r es ls
 
-  pub gave : (ws ws' : List ℤ) (c : ℕ) → AcceptedReason r i (length ws) → ((f : Boundable r.count est lst r.durations) → ReasonLeft f.J i ws c ws')
-      → Explained (tasks_in r es ls) i ws (Written c) ws'
-  gave ws ws' c b told = explained Z i q (proper_whole r es ls a long) ws (Written c) ws' (λ w. stands ((raises_is r es ls a long i b.small).1 w)) nothing
+  pub gave : (ws ws' : List ℤ) (c : ℕ) → AcceptedReason r i (length ws) → ReasonLeft (moments_in r es ls) i ws c ws' → Explained (tasks_in r es ls) i ws (Ok c) ws'
+  gave ws ws' c b left = explained Z i q (proper_whole r es ls a long) ws (Ok c) ws' (λ w. stands ((raises_is r es ls a long i b.small).1 w)) nothing
     where
-      left : ReasonLeft M i ws c ws'
-      left = told (boundable r es ls a long e l)
-
       q : i < Z.count
       q = among r es ls a long i b.small
 
@@ -164,15 +157,15 @@ module _ (r : DisjunctivePropagator) (es ls : List ℤ) (a : AcceptedInput r es 
       stands h =
           let s : Stored ws ws' 0 c (reason_of Z i) = subst (Stored ws ws' 0 c) same_reason (left.written h) in
           let z : c ≡ length (reason_of Z i) = omega (arith, s.count) in
-          (ap (λ (n : ℕ). numbers_of_reason (Written n)) z, s.words ∙ overwrites ws (atom_words (reason_of Z i)) enough)
+          (ap (λ (n : ℕ). numbers_of_reason (Ok n)) z, s.words ∙ overwrites ws (atom_words (reason_of Z i)) enough)
 
       nothing : (Raises Z i → ⊥) → (answered 0 (pos c ∷ []) ≡ answered 0 (pos 0 ∷ [])) × (ws' ≡ ws)
-      nothing no_raise = let w = left.nothing ((broken (raises_is r es ls a long i b.small)).1 no_raise) in (ap (λ (n : ℕ). numbers_of_reason (Written n)) w.0, w.1)
+      nothing no_raise = let w = left.nothing ((broken (raises_is r es ls a long i b.small)).1 no_raise) in (ap (λ (n : ℕ). numbers_of_reason (Ok n)) w.0, w.1)
 
 -- The contract, by the number that the tests answer.
 module _ (before : DisjunctivePropagator) (es ls : List ℤ) (bars : Bool) (task : ℕ) (ws : List ℤ) {m : ℕ} (e : m ≡ reason_number before es ls bars task (length ws)) where
-  pub is_refused : (r : Reason) (ws' : List ℤ) → (m ≡ 0 → ⊥) → numbers_of_reason r ≡ refused_by m → ws' ≡ ws → ReasonGiven before es ls bars task ws r ws'
+  pub is_refused : (r : Result ℕ Refusal) (ws' : List ℤ) → (m ≡ 0 → ⊥) → numbers_of_reason r ≡ refused_by m → ws' ≡ ws → ReasonGiven before es ls bars task ws r ws'
   is_refused r ws' not z y = record { refused = λ _. record { answer = z ∙ ap refused_by e; words = y }; given = λ k. absurd (not (e ∙ k)) }
 
-  pub given : (r : Reason) (ws' : List ℤ) → m ≡ 0 → Explained (tasks_in before es ls) task ws r ws' → ReasonGiven before es ls bars task ws r ws'
+  pub given : (r : Result ℕ Refusal) (ws' : List ℤ) → m ≡ 0 → Explained (tasks_in before es ls) task ws r ws' → ReasonGiven before es ls bars task ws r ws'
   given r ws' z t = record { refused = λ h. absurd (h (sym e ∙ z)); given = λ _. t }

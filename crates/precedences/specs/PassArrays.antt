@@ -1,5 +1,5 @@
 -- What the code holds: raised starts in arrays, over moments.
-use Rattle.std.specs.Prelude.{List, ℕ, ◌≤◌, ◌<◌, get_or}
+use Rattle.std.specs.Prelude.{Option, Some, None, List, ℕ, ◌≤◌, ◌<◌, get_or}
 use Rattle.scheduling.specs.Scheduling.{natural, Tasks}
 use Rattle.trees.specs.Ects.{raised_to}
 use Rattle.precedences.specs.PredecessorArrays.{bound_at}
@@ -8,8 +8,11 @@ use Rattle.precedences.specs.PredecessorArrays.{bound_at}
 abbrev pub raised_there : Tasks natural → ℕ → ℕ
 raised_there J i = raised_to (J.earliest i) (bound_at J i)
 
--- r is the first of n tasks whose raised start is past its latest start, or n
-pub record FirstPast (raised lst : List ℕ) (n r : ℕ) : Type 0 where
-  pub small : r ≤ n
-  pub past : r < n → get_or lst r 0 < get_or raised r 0
-  pub none_before : (k : ℕ) → k < r → get_or raised k 0 ≤ get_or lst k 0
+-- no raised start of the first n is past its latest start
+abbrev pub NonePast : List ℕ → List ℕ → ℕ → Type 0
+NonePast raised lst n = (k : ℕ) → k < n → get_or raised k 0 ≤ get_or lst k 0
+
+-- the first of n tasks whose raised start is past its latest start, or that there is none
+abbrev pub FirstPast : List ℕ → List ℕ → ℕ → Option ℕ → Type 0
+FirstPast raised lst n (Some i) = (i < n) × (get_or lst i 0 < get_or raised i 0) × NonePast raised lst i
+FirstPast raised lst n None = NonePast raised lst n

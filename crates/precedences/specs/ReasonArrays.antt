@@ -1,12 +1,11 @@
 -- What the code holds: members in an array, a bound, and a reason in words, over moments.
-use Rattle.std.specs.Prelude.{◌≡◌, Bool, true, false, List, [], ◌∷◌, ℕ, ℤ, get_or}
+use Rattle.std.specs.Prelude.{◌≡◌, Bool, true, false, Option, Ok, List, [], ◌∷◌, ℕ, ℤ, get_or}
 use Rattle.integers.specs.Answers.{answered}
 use Rattle.integers.specs.Moments.{instant, zero_at}
 use Rattle.scheduling.specs.Scheduling.{natural, Tasks, TaskSet, Atom}
 use Rattle.post_words.specs.StoredAtoms.{Stored}
 use Rattle.trees.specs.Ects.{exceeds, raised_to}
 use Rattle.precedences.specs.PredecessorArrays.{comes_before, bound_at}
-use Rattle.precedences.specs.declared.reason.BoundAbove.{BoundAbove}
 use Rattle.precedences.specs.ReasonNumbers.{numbers_of_bound}
 use Rattle.precedences.specs.Reasons.{at_least, both_bounds}
 
@@ -15,9 +14,9 @@ abbrev pub member_at : List Bool → TaskSet
 member_at members k = get_or members k false
 
 -- The answer about task i's bound: the bound where it is above the earliest start, else that there is none.
-pub record BoundLeft (J : Tasks natural) (i : ℕ) (r : BoundAbove) : Type 0 where
-  pub raised : exceeds (bound_at J i) (J.earliest i) ≡ true → numbers_of_bound r ≡ answered 0 (instant zero_at (raised_to (J.earliest i) (bound_at J i)) ∷ [])
-  pub none : exceeds (bound_at J i) (J.earliest i) ≡ false → numbers_of_bound r ≡ answered 1 []
+pub record BoundLeft (J : Tasks natural) (i : ℕ) (r : Option ℤ) : Type 0 where
+  pub raised : exceeds (bound_at J i) (J.earliest i) ≡ true → numbers_of_bound (Ok r) ≡ answered 0 (instant zero_at (raised_to (J.earliest i) (bound_at J i)) ∷ [])
+  pub none : exceeds (bound_at J i) (J.earliest i) ≡ false → numbers_of_bound (Ok r) ≡ answered 1 []
 
 -- The reason of task i's bound, over moments, and the words ws after the call. They are unchanged where the bound is not above the earliest start. Otherwise
 -- the reason is at the front.

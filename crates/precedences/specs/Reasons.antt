@@ -1,6 +1,7 @@
 -- The reason of one task's bound: its atoms, what refuses the call, and what it leaves.
-use Rattle.std.specs.Prelude.{◌≡◌, Bool, true, false, List, [], ◌∷◌, ◌++◌, ℕ, zero, suc, ◌+◌, ◌*◌, ◌≤◌, ◌<◌, leb, ℤ, pos, length}
+use Rattle.std.specs.Prelude.{◌≡◌, Bool, true, false, Result, List, [], ◌∷◌, ◌++◌, ℕ, zero, suc, ◌+◌, ◌*◌, ◌≤◌, ◌<◌, leb, ℤ, pos, length}
 use Rattle.std.proofs.Math.Option.{some, none}
+use Rattle.integers.specs.declared.refused.Refusal.{Refusal}
 use Rattle.integers.specs.Refused as refused
 use Rattle.integers.specs.Answers.{answered, refused_by}
 use Rattle.integers.specs.Tests.{Test, test, refusal}
@@ -10,7 +11,6 @@ use Rattle.scheduling.specs.Words.{atom_words}
 use Rattle.records.specs.declared.record.DisjunctivePropagator.{DisjunctivePropagator}
 use Rattle.records.specs.Records.{tasks_in}
 use Rattle.precedences.specs.Predecessors.{predecessors, AllBefore, PrecedenceBound}
-use Rattle.precedences.specs.declared.reason.Reason.{Reason}
 use Rattle.precedences.specs.ReasonNumbers.{numbers_of_reason}
 use Rattle.precedences.specs.Bounds.{Raises, bound_tests}
 
@@ -39,7 +39,7 @@ module _ (J : Tasks whole) (i : ℕ) where
   -- An accepted call, from the words ws to ws'. Where the bound raises i, the reason is at the front, every word after it is unchanged, and the answer is
   -- its atom count. Elsewhere the answer is 0, and no word changes. The reason holds at entry. Take starts of any range that meet it, with no two tasks
   -- overlapping. Then all of P comes before i, and i starts at or after the bound.
-  pub record Explained (ws : List ℤ) (r : Reason) (ws' : List ℤ) : Type 0 where
+  pub record Explained (ws : List ℤ) (r : Result ℕ Refusal) (ws' : List ℤ) : Type 0 where
     pub written : Raises J i → (numbers_of_reason r ≡ answered 0 (pos (length reason_of) ∷ [])) × (ws' ≡ overwritten ws (atom_words reason_of))
     pub nothing : (Raises J i → ⊥) → (numbers_of_reason r ≡ answered 0 (pos 0 ∷ [])) × (ws' ≡ ws)
     pub few : length reason_of + 1 ≤ 2 * J.count
@@ -55,13 +55,13 @@ abbrev pub reason_number : DisjunctivePropagator → List ℤ → List ℤ → B
 reason_number r es ls bars task words = refusal (reason_tests r es ls bars task words)
 
 -- A refused call changes no word.
-pub record KeptWords (ws : List ℤ) (number : ℕ) (r : Reason) (ws' : List ℤ) : Type 0 where
+pub record KeptWords (ws : List ℤ) (number : ℕ) (r : Result ℕ Refusal) (ws' : List ℤ) : Type 0 where
   pub answer : numbers_of_reason r ≡ refused_by number
   pub words : ws' ≡ ws
 
 -- `bars` says whether the bars of the ranges fit. The first test that fails refuses the call.
 pub record ReasonGiven (before : DisjunctivePropagator) (es ls : List ℤ) (bars : Bool) (task : ℕ)
-    (ws : List ℤ) (r : Reason) (ws' : List ℤ) : Type 0 where
+    (ws : List ℤ) (r : Result ℕ Refusal) (ws' : List ℤ) : Type 0 where
   pub refused : (reason_number before es ls bars task (length ws) ≡ 0 → ⊥) → KeptWords ws (reason_number before es ls bars task (length ws)) r ws'
   pub given : reason_number before es ls bars task (length ws) ≡ 0 → Explained (tasks_in before es ls) task ws r ws'
 

@@ -5,4 +5,5 @@ pub mod answers;
 pub mod bounds;
 pub mod pass;
 mod predecessors;
+mod range_moments;
 pub mod reason;

@@ -2,85 +2,53 @@
 ghost use Rattle.std.specs.Prelude.{◌≡◌, ◌≤◌, length};
 ghost use Rattle.integers.specs.FilledLists.{filled, no_tasks};
 ghost use Rattle.integers.specs.Limits.{TASKS};
-ghost use Rattle.records.specs.Records.{tasks_in};
-ghost use Rattle.records.specs.Refusals.{AcceptedInput};
-ghost use Rattle.precedences.specs.PredecessorArrays.{start_at, Boundable};
+ghost use Rattle.scheduling.specs.Scheduling.{natural, Tasks};
+ghost use Rattle.precedences.specs.PredecessorArrays.{start_at, HoldsRanges};
 ghost use Rattle.precedences.specs.PassArrays.{raised_there, FirstPast};
-ghost use Rattle.precedences.specs.Precedences.{LeftPrecedences, RanPrecedences};
+ghost use Rattle.precedences.specs.Precedences.{RanPrecedences};
 
 use crate::answers::Precedences;
 use crate::predecessors::bound_of;
+use crate::range_moments::{RangeMoments, range_moments};
 use integers::limits::TASKS;
-use integers::moments::{moments_of, start_of};
+use integers::moments::start_of;
 use records::record::DisjunctivePropagator;
 use records::refusals::input_refusal;
+use trees::ect::raised;
 
-// Each of n tasks' earliest start or bound, whichever is later.
-fn raised_starts<'a>(
-    est: &'a [u32; TASKS],
-    lst: &'a [u32; TASKS],
-    durations: &'a [u32; TASKS],
-    n: usize,
-) -> [u32; TASKS]
-    requires { Boundable n est.now lst.now durations.now }
-    ensures { (f : Boundable n est.now lst.now durations.now) → result ≡ filled (raised_there f.J) n no_tasks }
+// Each task's earliest start or bound, whichever is later.
+fn raised_starts(m: &RangeMoments) -> [u32; TASKS]
+    requires { (J : Tasks natural) × HoldsRanges J m.now }
+    ensures { (J : Tasks natural) → HoldsRanges J m.now → result ≡ filled (raised_there J) m.now.count no_tasks }
 {
-    let mut raised = [0u32; TASKS];
-    let mut i = 0;
-    while i < n {
-        let bound = bound_of(est, lst, durations, n, i);
-        raised[i] = bound.raised(est[i]);
-        i += 1;
+    let mut starts = [0u32; TASKS];
+    for i in 0..m.count {
+        starts[i] = raised(bound_of(m, i), m.est[i]);
     }
-    raised
+    starts
 }
 
-// The first of n tasks whose raised start is past its latest start, or n.
-fn first_past<'a>(raised: &'a [u32; TASKS], lst: &'a [u32; TASKS], n: usize) -> usize
-    requires { n ≤ TASKS }
-    ensures { FirstPast raised.now lst.now n result }
+// The first task whose raised start is past its latest start.
+fn first_past(starts: &[u32; TASKS], m: &RangeMoments) -> Option<usize>
+    requires { m.now.count ≤ TASKS }
+    ensures { FirstPast starts.now m.now.lst m.now.count result }
 {
-    let mut i = 0;
-    while i < n {
-        if lst[i] < raised[i] {
-            return i;
+    for i in 0..m.count {
+        if m.lst[i] < starts[i] {
+            return Some(i);
         }
-        i += 1;
     }
-    n
+    None
 }
 
 // Stores the raised starts in the caller's slice.
-fn store(earliest: &mut [i32], raised: &[u32; TASKS])
+fn store(earliest: &mut [i32], starts: &[u32; TASKS])
     requires { length earliest.old ≤ TASKS }
-    ensures { earliest.new ≡ filled (start_at raised.now) (length earliest.old) earliest.old }
+    ensures { earliest.new ≡ filled (start_at starts.now) (length earliest.old) earliest.old }
 {
-    let mut k = 0;
-    while k < earliest.len() {
-        earliest[k] = start_of(raised[k]);
-        k += 1;
+    for (k, start) in earliest.iter_mut().enumerate() {
+        *start = start_of(starts[k]);
     }
-}
-
-// The pass on a record and ranges that nothing refuses.
-fn accepted(record: DisjunctivePropagator, earliest: &mut [i32], latest: &[i32]) -> Precedences
-    requires { AcceptedInput «record» earliest.old latest.now }
-    ensures { LeftPrecedences (tasks_in «record» earliest.old latest.now)
-        earliest.old result earliest.new }
-{
-    let n = record.count;
-    let durations = record.durations;
-    let mut est: [u32; TASKS] = [0; TASKS];
-    moments_of(&mut est, earliest);
-    let mut lst: [u32; TASKS] = [0; TASKS];
-    moments_of(&mut lst, latest);
-    let raised = raised_starts(&est, &lst, &durations, n);
-    let i = first_past(&raised, &lst, n);
-    if i < n {
-        return Precedences::Emptied(i);
-    }
-    store(earliest, &raised);
-    Precedences::Done
 }
 
 // Raises each earliest start to the ect of the tasks that must come before its task, where that is later. `bars_fit` says whether the ranges' bars fit.
@@ -92,16 +60,14 @@ pub fn precedences(
 ) -> Precedences
     ensures { RanPrecedences «record» earliest.old latest.now bars_fit result earliest.new }
 {
-    let number = input_refusal(
-        record.count,
-        &record.durations,
-        record.total,
-        earliest,
-        latest,
-        bars_fit,
-    );
-    if number != 0 {
-        return Precedences::Refused(number);
+    if let Err(why) = input_refusal(&record, earliest, latest, bars_fit) {
+        return Precedences::Refused(why);
     }
-    accepted(record, earliest, latest)
+    let m = range_moments(&record, earliest, latest);
+    let starts = raised_starts(&m);
+    if let Some(i) = first_past(&starts, &m) {
+        return Precedences::Emptied(i);
+    }
+    store(earliest, &starts);
+    Precedences::Done
 }

@@ -1,36 +1,22 @@
 // The reason of one task's bound, as atoms in the caller's words.
 ghost use Rattle.std.specs.Prelude.{◌≡◌, true, ◌+◌, ◌*◌, ◌<◌, ◌≤◌, length};
 ghost use Rattle.integers.specs.Limits.{TASKS};
+ghost use Rattle.integers.specs.Refused.{number_in};
 ghost use Rattle.integers.specs.Moments.{instant, zero_at};
 ghost use Rattle.post_words.specs.StoredAtoms.{Stored};
-ghost use Rattle.records.specs.Records.{tasks_in, record_of};
-ghost use Rattle.records.specs.Refusals.{AcceptedInput};
-ghost use Rattle.precedences.specs.PredecessorArrays.{start_at, Boundable};
+ghost use Rattle.scheduling.specs.Scheduling.{natural, Tasks};
+ghost use Rattle.precedences.specs.PredecessorArrays.{start_at, HoldsRanges};
 ghost use Rattle.precedences.specs.ReasonArrays.{member_at, ReasonLeft};
-ghost use Rattle.precedences.specs.Reasons.{both_of, both_bounds, Explained, reason_number, ReasonGiven, AcceptedReason};
+ghost use Rattle.precedences.specs.Reasons.{both_of, both_bounds, reason_number, ReasonGiven};
 
 use crate::bounds::bound_refusal;
 use crate::predecessors::{bound_of, predecessors};
+use crate::range_moments::{RangeMoments, range_moments};
 use integers::limits::TASKS;
-use integers::moments::moments_of;
-use integers::refused;
-use post_words::{AT_LEAST, AT_MOST, write_atom};
+use integers::refused::Refusal;
+use post_words::{AtomKind, write_atom};
 use records::record::DisjunctivePropagator;
-
-// How many atoms were written, or the number that refused the input.
-#[derive(Clone, Copy)]
-pub enum Reason {
-    Written(usize),
-    Refused(u32),
-}
-
-// The bound, where it is above the earliest start, or the number that refused the input.
-#[derive(Clone, Copy)]
-pub enum BoundAbove {
-    At(i32),
-    NoBound,
-    Refused(u32),
-}
+use trees::ect::exceeds;
 
 // Both bounds of task j, where it is a member, from the k-th atom on. The number of the atom after them.
 fn write_both(atoms: &mut [i32], k: usize, j: usize, member: bool, est: u32, lst: u32) -> usize
@@ -40,98 +26,56 @@ fn write_both(atoms: &mut [i32], k: usize, j: usize, member: bool, est: u32, lst
     if !member {
         return k;
     }
-    write_atom(atoms, k, j, AT_LEAST, est);
-    write_atom(atoms, k + 1, j, AT_MOST, lst);
+    write_atom(atoms, k, j, AtomKind::AtLeast, est);
+    write_atom(atoms, k + 1, j, AtomKind::AtMost, lst);
     k + 2
 }
 
-// Both bounds of the members of n tasks, by number, from the second atom on. The number of the atom after them.
-fn write_members<'a>(
-    atoms: &mut [i32],
-    members: &'a [bool; TASKS],
-    est: &'a [u32; TASKS],
-    lst: &'a [u32; TASKS],
-    n: usize,
-) -> usize
-    requires { (n ≤ TASKS)
-        × (3 * (1 + length (both_bounds (start_at est.now) (start_at lst.now) (member_at members.now) n)) ≤ length atoms.old) }
+// Both bounds of the members, by number, from the second atom on. The number of the atom after them.
+fn write_members(atoms: &mut [i32], members: &[bool; TASKS], m: &RangeMoments) -> usize
+    requires { (m.now.count ≤ TASKS)
+        × (3 * (1 + length (both_bounds (start_at m.now.est) (start_at m.now.lst) (member_at members.now) m.now.count)) ≤ length atoms.old) }
     ensures { Stored atoms.old atoms.new 1 result
-        (both_bounds (start_at est.now) (start_at lst.now) (member_at members.now) n) }
+        (both_bounds (start_at m.now.est) (start_at m.now.lst) (member_at members.now) m.now.count) }
 {
     let mut k = 1;
-    let mut j = 0;
-    while j < n {
-        k = write_both(atoms, k, j, members[j], est[j], lst[j]);
-        j += 1;
+    for j in 0..m.count {
+        k = write_both(atoms, k, j, members[j], m.est[j], m.lst[j]);
     }
     k
 }
 
 // The reason of task i's bound, where that is above its earliest start, and its atom count; else 0.
-fn write_reason<'a>(
-    atoms: &mut [i32],
-    est: &'a [u32; TASKS],
-    lst: &'a [u32; TASKS],
-    durations: &'a [u32; TASKS],
-    n: usize,
-    i: usize,
-) -> usize
-    requires { Boundable n est.now lst.now durations.now × (i < n) × (6 * n ≤ length atoms.old) }
-    ensures { (f : Boundable n est.now lst.now durations.now)
-        → ReasonLeft f.J i atoms.old result atoms.new }
+fn write_reason(atoms: &mut [i32], m: &RangeMoments, i: usize) -> usize
+    requires { (J : Tasks natural) × HoldsRanges J m.now × (i < m.now.count) × (6 * m.now.count ≤ length atoms.old) }
+    ensures { (J : Tasks natural) → HoldsRanges J m.now → ReasonLeft J i atoms.old result atoms.new }
 {
-    let start = est[i];
-    let bound = bound_of(est, lst, durations, n, i);
-    if !bound.exceeds(start) {
+    let start = m.est[i];
+    if !exceeds(bound_of(m, i), start) {
         return 0;
     }
-    write_atom(atoms, 0, i, AT_LEAST, start);
-    let before = predecessors(est, lst, durations, n, i);
-    write_members(atoms, &before, est, lst, n)
+    write_atom(atoms, 0, i, AtomKind::AtLeast, start);
+    let before = predecessors(m, i);
+    write_members(atoms, &before, m)
 }
 
-// The call on a record, ranges, a task and words that nothing refuses.
-fn accepted_reason(
-    record: DisjunctivePropagator,
-    earliest: &[i32],
-    latest: &[i32],
-    task: usize,
-    atoms: &mut [i32],
-) -> Reason
-    requires { AcceptedInput «record» earliest.now latest.now × AcceptedReason «record» task (length atoms.old) }
-    ensures { Explained (tasks_in «record» earliest.now latest.now) task atoms.old result atoms.new }
-{
-    let n = record.count;
-    let durations = record.durations;
-    let mut est: [u32; TASKS] = [0; TASKS];
-    moments_of(&mut est, earliest);
-    let mut lst: [u32; TASKS] = [0; TASKS];
-    moments_of(&mut lst, latest);
-    Reason::Written(write_reason(atoms, &est, &lst, &durations, n, task))
-}
-
-// The number that refuses the call, or 0: 20, 10, 3, 4, 13, 17, 16.
-fn reason_refusal<'a>(
-    n: usize,
-    durations: &'a [u32; TASKS],
-    total: u32,
+// Why the call is refused: as the bound's call, and then for the words, which are to have room for the longest reason.
+#[tactic(auto, unfolding(integers::specs::Tests::refusal))]
+fn reason_refusal(
+    record: &DisjunctivePropagator,
     earliest: &[i32],
     latest: &[i32],
     bars_fit: bool,
     task: usize,
     words: usize,
-) -> u32
-    ensures { result ≡ reason_number (record_of n durations.now total) earliest.now latest.now
-        bars_fit task words }
+) -> Result<(), Refusal>
+    ensures { number_in result ≡ reason_number «record».now earliest.now latest.now bars_fit task words }
 {
-    let number = bound_refusal(n, durations, total, earliest, latest, bars_fit, task);
-    if number != 0 {
-        return number;
+    bound_refusal(record, earliest, latest, bars_fit, task)?;
+    if words < 6 * record.count {
+        return Err(Refusal::ReasonRoom);
     }
-    if words < 6 * n {
-        return refused::REASON_ROOM;
-    }
-    0
+    Ok(())
 }
 
 // Writes the reason of the task's bound over these ranges, and answers how many atoms it has. `bars_fit` says whether the ranges' bars fit.
@@ -142,21 +86,10 @@ pub fn precedence_reason(
     bars_fit: bool,
     task: usize,
     atoms: &mut [i32],
-) -> Reason
+) -> Result<usize, Refusal>
     ensures { ReasonGiven «record» earliest.now latest.now bars_fit task atoms.old result atoms.new }
 {
-    let number = reason_refusal(
-        record.count,
-        &record.durations,
-        record.total,
-        earliest,
-        latest,
-        bars_fit,
-        task,
-        atoms.len(),
-    );
-    if number != 0 {
-        return Reason::Refused(number);
-    }
-    accepted_reason(record, earliest, latest, task, atoms)
+    reason_refusal(&record, earliest, latest, bars_fit, task, atoms.len())?;
+    let m = range_moments(&record, earliest, latest);
+    Ok(write_reason(atoms, &m, task))
 }

@@ -1,17 +1,17 @@
 -- The contract of the open pass by precedences says every sentence of request (h) about it.
 use mathlib.Core.Path.{◌≡◌, ap, ◌∙◌}
-use mathlib.Core.List.{List, []}
+use mathlib.Core.List.{List}
 use mathlib.Core.Logic.{◌⊎◌, ◌↔◌, inl, inr, ⊎_elim}
-use Prim.Native.Nat.{ℕ, ◌<◌}
+use Prim.Native.Nat.{ℕ}
 use native.Mathlib.Omega.{arith}
-use lib.IntN.{ℤ, pos}
+use lib.IntN.{pos}
 use lib.ListN.{get_or}
-use Rattle.integers.specs.Answers.{Answer, answered}
+use Rattle.integers.specs.Answers.{Answer}
 use Rattle.scheduling.specs.Scheduling.{whole, Tasks}
 use Rattle.records.specs.declared.record.DisjunctivePropagator.{DisjunctivePropagator}
 use Rattle.precedences.specs.declared.answers.Precedences.{Precedences}
 use Rattle.precedences.specs.Numbers.{numbers_of_precedences}
-use Rattle.precedences.specs.Precedences.{NoneEmptied, LeftPrecedences}
+use Rattle.precedences.specs.Precedences.{NoneEmptied}
 use Rattle.ranges.specs.declared.range.Range.{Range}
 use Rattle.ranges.specs.Ranges.{latests}
 use Rattle.ranges.proofs.StoredStarts.{latests_with}

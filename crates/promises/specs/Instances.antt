@@ -1,5 +1,5 @@
 -- The starred instances of the paper, as one table with one theorem: the runs of `runs` on a fresh record, a variable state and checks from the empty one.
-use Rattle.std.specs.Prelude.{◌≡◌, refl, List, [], ◌∷◌, ◌++◌, map, ℕ, ℤ, pos}
+use Rattle.std.specs.Prelude.{◌≡◌, refl, List, [], ◌∷◌, ◌++◌, map, ℕ, ℤ, pos, Ok}
 use Rattle.std.proofs.Math.Option.{Option, some, none}
 use Rattle.integers.specs.FilledLists.{filled}
 use Rattle.integers.specs.Orders.{sort, insert, index, numbers}
@@ -19,7 +19,6 @@ use Rattle.checking.specs.Atoms.{atoms_of, right_atom, right_words, right_lists}
 use Rattle.checking.specs.declared.int_ext.IntExt.TheVariants.{Int}
 use Rattle.checking.specs.Domains.{accepted_domain, ascend, tightened_lower, tightened_upper, less_lower, less_upper, hole_added, without, crowded, settled}
 use Rattle.checking.specs.Domains.{reduced}
-use Rattle.checking.specs.declared.variable_state.Bound.TheVariants.{At}
 use Rattle.checking.specs.States.{empty_state, accepted, stepped, applied_to, bound_of, lower_of, apply_all, prepared}
 use Rattle.runs.specs.Instances.{Input, Instance, at_least, A, five, paper}
 use Rattle.runs.specs.Traces.{Trace}
@@ -48,7 +47,7 @@ left ts = trace_of (created (durations ts)).«record» (map (λ (t : ℕ × ℕ 
 
 abbrev Holds : Starred → Type 0
 Holds (runs i) = left i.tasks ≡ i.leaves
-Holds (leaves atoms x least) = bound_of lower_of (apply_all atoms empty_state).state (pos x) ≡ At (Int (pos least))
+Holds (leaves atoms x least) = bound_of lower_of (apply_all atoms empty_state).state (pos x) ≡ Ok (Int (pos least))
 Holds (checks ds premises consequent answer) = check_of ds (atom_words premises) (consequent_words consequent) ≡ answer
 
 abbrev AllHold : List Starred → Type 0

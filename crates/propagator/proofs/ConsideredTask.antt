@@ -11,11 +11,11 @@ use lib.IntN.{ℤ, pos}
 use lib.ListN.{length, get_or, set, length-append, length-map}
 use lib.Seq.{sets, length-sets, set-get_or}
 use borrow.Author.Tests.{lt-ltb, le-ltb}
+use Rattle.std.specs.Prelude.{Ok, Err}
 use Rattle.integers.specs.Limits.{TASKS, ATOMS}
 use Rattle.integers.specs.Moments.{instant, zero_at}
 use Rattle.integers.specs.Orders.{index}
 use Rattle.scheduling.specs.Scheduling.{natural, Tasks, TaskSet, Atom, completion}
-use Rattle.trees.specs.declared.complete_tree.TreeSize.{TreeSize}
 use Rattle.trees.specs.Ects.{exceeds, raised_to}
 use Rattle.trees.proofs.Ects.{raised_some, within_bound, raised_least}
 use Rattle.trees.specs.Leaves as leaves
@@ -24,7 +24,6 @@ use Rattle.trees.specs.ArraySearches.{theta_in}
 use Rattle.trees.specs.Shapes.{height_for}
 use Rattle.trees.specs.Trees.{IsTree}
 use Rattle.trees.specs.Operations.{Held, Tall, InLambda, Coloured}
-use Rattle.trees.proofs.Heights.{room as room_for}
 use Rattle.trees.proofs.RootAnswers as tree
 use Rattle.trees.proofs.Trees.{theta_of}
 use Rattle.runs.specs.Traces.{Post}
@@ -42,8 +41,8 @@ use Rattle.explanations.specs.WrittenAtoms.{starting}
 use Rattle.explanations.specs.Explanations.{ConflictExplainable, PropagationExplainable}
 use Rattle.explanations.proofs.ExplanationAtoms.{Alike, conflict_same, propagation_same}
 use Rattle.propagator.specs.declared.disjunctive_propagator.Written.{Written}
-use Rattle.propagator.specs.declared.disjunctive_propagator.Turn.TheVariants as turn
-use Rattle.propagator.specs.RunArrays.{Ordered, Holds, SizeFits, Slices}
+use Rattle.propagator.specs.declared.task_arrays.TaskArrays.{TaskArrays}
+use Rattle.propagator.specs.RunArrays.{Ordered, Holds, theta_shown, Slices}
 use Rattle.propagator.specs.Candidates.{counted, reason_of, Posted, Considerable, AtNow, Considered, ResponsibleFor}
 use Rattle.propagator.specs.EdgeFinding.{conflict_of}
 use Rattle.propagator.proofs.ExplanationInput as meeting
@@ -97,13 +96,27 @@ pub changes_few : {J : Tasks natural} {est_order lct_order : List ℕ} {t : ℕ}
 changes_few {J} {est_order} {lct_order} {t} {st} G r small a =
     omega (arith, a.counted, reached_changes zero_at J G.proper est_order lct_order G.by_earliest_is G.by_completion_is t st r small, G.limited.count)
 
-module _ {size : TreeSize} {lct : ℕ} {words : List ℕ} {es posts atoms : List ℤ} {w : Written} {est lst durations reverse_mapping mapping : List ℕ}
-    (s : Considerable size lct words es posts atoms w est lst durations reverse_mapping mapping) where
+module _ {tasks : TaskArrays} {lct : ℕ} {words : List ℕ} {es posts atoms : List ℤ} {w : Written} (s : Considerable tasks lct words es posts atoms w) where
   abbrev n : ℕ
-  n = size.leaves
+  n = tasks.size.leaves
 
   abbrev inn : ℕ
-  inn = size.inner
+  inn = tasks.size.inner
+
+  abbrev est : List ℕ
+  est = tasks.est.now
+
+  abbrev lst : List ℕ
+  lst = tasks.lst.now
+
+  abbrev durations : List ℕ
+  durations = tasks.durations.now
+
+  abbrev reverse_mapping : List ℕ
+  reverse_mapping = tasks.reverse_mapping.now
+
+  abbrev mapping : List ℕ
+  mapping = tasks.mapping.now
 
   abbrev J : Tasks natural
   J = s.J
@@ -151,18 +164,15 @@ module _ {size : TreeSize} {lct : ℕ} {words : List ℕ} {es posts atoms : List
   abbrev pub shown : Held inn words
   shown = record { J = J; est_order = est_order; leaves = ls; limited = G.limited; tree = s.at.tree }
 
-  pub tall : Tall shown size.height
+  pub tall : Tall shown tasks.size.height
   tall = s.arrays.tall ∙ ap height_for (sym s.arrays.count)
 
-  pub theta_is : theta_in words inn reverse_mapping n ≡ leaves.theta J est_order ls
+  pub theta_is : theta_shown tasks words ≡ leaves.theta J est_order ls
   theta_is = ap (theta_in words inn reverse_mapping) (sym s.arrays.count)
       ∙ theta_of G.limited s.at.tree reverse_mapping (λ j q. s.arrays.reverse_mapping_is.at j (omega (arith, s.arrays.count)))
 
   pub few : n ≤ TASKS
-  few = omega (arith, G.limited.count, s.arrays.count)
-
-  pub size_fits : SizeFits size
-  size_fits = record { leaves = few; inner = omega (arith, s.at.tree.complete, room_for J.count (omega (arith, G.limited.count))) }
+  few = tasks.few_tasks
 
   pub few_changes : w.changes ≤ 4 * TASKS
   few_changes = changes_few G s.reached s.small s.at.slices
@@ -199,12 +209,12 @@ module _ {size : TreeSize} {lct : ℕ} {words : List ℕ} {es posts atoms : List
     mul-le-mul_right {m = suc (length s.st.posts)} {n = n} (2 * n) (omega (arith, posts_few, s.small, s.arrays.count)),
   )
 
-  pub over_asked : exceeds (leaves.ect J est_order ls) lct ≡ true → ConflictExplainable (length atoms) w.atoms (theta_in words inn reverse_mapping n) est durations (leaves.sum J est_order ls) lct
+  pub over_asked : exceeds (leaves.ect J est_order ls) lct ≡ true → ConflictExplainable (length atoms) w.atoms (theta_shown tasks words) est durations (leaves.sum J est_order ls) lct
   over_asked q = overloaded_at theta_is s.ends
       (meeting.conflict_explainable G (held s.arrays.starts) (held s.arrays.lasts) t shape s.small (length atoms) w.atoms
       (ap (exceeds (leaves.ect J est_order ls)) (sym s.ends) ∙ q) over_room)
 
-  pub conflict_is : conflict_of shown reverse_mapping n est durations lct ≡ conflict zero_at J (completion J (get_or lct_order t 0)) (leaves.sum J est_order ls) (leaves.theta J est_order ls)
+  pub conflict_is : conflict_of tasks shown lct ≡ conflict zero_at J (completion J (get_or lct_order t 0)) (leaves.sum J est_order ls) (leaves.theta J est_order ls)
   conflict_is = conflict_at (starting est durations) (leaves.sum J est_order ls) theta_is s.ends
       ∙ conflict_same zero_at (starting est durations) J (completion J (get_or lct_order t 0)) (leaves.sum J est_order ls) (leaves.theta J est_order ls)
       (λ y q. meeting.alike G (held s.arrays.starts) (held s.arrays.lasts) (get_or (leaves.theta J est_order ls) y 0)
@@ -301,7 +311,7 @@ module _ {size : TreeSize} {lct : ℕ} {words : List ℕ} {es posts atoms : List
         up' = omega (arith, up, task_start)
 
         -- what `post` asks
-        pub asked : PropagationExplainable (length atoms) w.atoms (theta_in words inn reverse_mapping n) est durations (leaves.sum J est_order ls) lct i b
+        pub asked : PropagationExplainable (length atoms) w.atoms (theta_shown tasks words) est durations (leaves.sum J est_order ls) lct i b
         asked = explainable_at theta_is s.ends r.task
             (meeting.propagation_explainable G (held s.arrays.starts) (held s.arrays.lasts) t shape s.small (length atoms) w.atoms x b found passes ect_is up' atom_room)
 
@@ -311,7 +321,7 @@ module _ {size : TreeSize} {lct : ℕ} {words : List ℕ} {es posts atoms : List
         abbrev made : Post
         made = record { task = T x; bound = instant zero_at b; reason = now }
 
-        reason_is : reason_of shown reverse_mapping n est durations i b lct ≡ now
+        reason_is : reason_of tasks shown i b lct ≡ now
         reason_is = propagation_at (starting est durations) (leaves.sum J est_order ls) b theta_is s.ends r.task
             ∙ propagation_same zero_at (starting est durations) J (T x) b (completion J (get_or lct_order t 0)) (leaves.sum J est_order ls) (leaves.theta J est_order ls)
             (alike (T x) found.gray.small) (λ y q.
@@ -324,7 +334,7 @@ module _ {size : TreeSize} {lct : ℕ} {words : List ℕ} {es posts atoms : List
         abbrev after : State
         after = posted zero_at J est_order lct_order s.st (T x) b t
 
-        module _ {posts' atoms' : List ℤ} {w' : Written} (p : Posted posts atoms posts' atoms' w w' i b (reason_of shown reverse_mapping n est durations i b lct)) where
+        module _ {posts' atoms' : List ℤ} {w' : Written} (p : Posted posts atoms posts' atoms' w w' i b (reason_of tasks shown i b lct)) where
           post_at : AtNow s after words es posts' atoms' w'
           post_at = record {
             tree = s.at.tree;
@@ -338,7 +348,7 @@ module _ {size : TreeSize} {lct : ℕ} {words : List ℕ} {es posts atoms : List
             };
           }
 
-          pub emptied : get_or lst i 0 < b → Considered s (turn.Emptied w') words es posts' atoms'
+          pub emptied : get_or lst i 0 < b → Considered s (Err (record { 0 = w' })) words es posts' atoms'
           emptied high = (
             after,
             post_at,
@@ -346,7 +356,7 @@ module _ {size : TreeSize} {lct : ℕ} {words : List ℕ} {es posts atoms : List
           )
 
           pub raised_on : {k : ℕ} {words' : List ℕ} {es' : List ℤ} → b ≤ get_or lst i 0 → es' ≡ set es i (instant zero_at b) → k ≡ get_or mapping i 0 → Cleared k words'
-              → Considered s (turn.On (counted w' 1)) words' es' posts' atoms'
+              → Considered s (Ok (counted w' 1)) words' es' posts' atoms'
           raised_on {words' = words'} low e at_leaf q = (
             dropped (raised after (T x) b) x,
             record {
@@ -364,7 +374,7 @@ module _ {size : TreeSize} {lct : ℕ} {words : List ℕ} {es posts atoms : List
           )
 
       -- no post
-      pub passed_on : {k : ℕ} {words' : List ℕ} → b ≤ get_or est i 0 → k ≡ get_or mapping i 0 → Cleared k words' → Considered s (turn.On (counted w 1)) words' es posts atoms
+      pub passed_on : {k : ℕ} {words' : List ℕ} → b ≤ get_or est i 0 → k ≡ get_or mapping i 0 → Cleared k words' → Considered s (Ok (counted w 1)) words' es posts atoms
       passed_on {words' = words'} low at_leaf q = (
         dropped s.st x,
         record {
@@ -379,12 +389,12 @@ module _ {size : TreeSize} {lct : ℕ} {words : List ℕ} {es posts atoms : List
 
       -- what the test for a post leaves: a post, or nothing new where the bound is not above the start
       abbrev pub Tried : List ℤ → List ℤ → Written → Type 0
-      Tried posts' atoms' w' = ((get_or est i 0 < b) × Posted posts atoms posts' atoms' w w' i b (reason_of shown reverse_mapping n est durations i b lct))
+      Tried posts' atoms' w' = ((get_or est i 0 < b) × Posted posts atoms posts' atoms' w w' i b (reason_of tasks shown i b lct))
           ⊎ ((b ≤ get_or est i 0) × (posts' ≡ posts) × (atoms' ≡ atoms) × (w' ≡ w))
 
       module _ {posts' atoms' : List ℤ} {w' : Written} where
         pub tried_sizes : Tried posts' atoms' w' → (length posts' ≡ length posts) × (length atoms' ≡ length atoms)
-        tried_sizes (inl (up, p)) = let reason = reason_of shown reverse_mapping n est durations i b lct in (
+        tried_sizes (inl (up, p)) = let reason = reason_of tasks shown i b lct in (
           ap length p.post_words_are ∙ length-sets posts (4 * w.posts) (pos i ∷ instant zero_at b ∷ pos w.atoms ∷ pos (length reason) ∷ []),
           ap length p.atom_words_are ∙ length-sets atoms (3 * w.atoms) (atom_words reason),
         )
@@ -395,13 +405,13 @@ module _ {size : TreeSize} {lct : ℕ} {words : List ℕ} {es posts atoms : List
         tried_changes (inr (low, e, f, g)) = ap (λ (w : Written). w.changes) g
 
         -- a bound above the latest start was posted
-        pub tried_emptied : Tried posts' atoms' w' → get_or lst i 0 < b → Considered s (turn.Emptied w') words es posts' atoms'
+        pub tried_emptied : Tried posts' atoms' w' → get_or lst i 0 < b → Considered s (Err (record { 0 = w' })) words es posts' atoms'
         tried_emptied (inl (up, p)) high = emptied up p high
         tried_emptied (inr (low, e, f, g)) high = absurd (omega (arith, low, high, task_start, task_latest, G.proper.ranges (T x) found.gray.small))
 
         -- a start that is not raised is written as it was
         pub tried_on : {k : ℕ} {words' : List ℕ} {es' : List ℤ} → Tried posts' atoms' w' → b ≤ get_or lst i 0 → es' ≡ set es i (instant zero_at b) → k ≡ get_or mapping i 0 → Cleared k words'
-            → Considered s (turn.On (counted w' 1)) words' es' posts' atoms'
+            → Considered s (Ok (counted w' 1)) words' es' posts' atoms'
         tried_on (inl (up, p)) fits e at_leaf q = raised_on up p fits e at_leaf q
         tried_on {words' = words'} (inr (low, f, g, h)) fits e at_leaf q = rw (e ∙ same, f, g, h) (passed_on low at_leaf q)
           where

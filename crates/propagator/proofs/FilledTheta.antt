@@ -16,9 +16,16 @@ use Rattle.trees.specs.Trees.{HasLeaves}
 use Rattle.trees.specs.Operations.{HeldLeaves, HasTask, LeafColoured}
 use Rattle.trees.proofs.RebuiltTrees.{tree_leaves}
 use Rattle.trees.proofs.TasksInTurn.{ect_of_first, first_more, first_small, all_in_turn}
+use Rattle.propagator.specs.declared.task_arrays.TaskArrays.{TaskArrays}
 use Rattle.propagator.specs.FilledTheta.{Fillable}
 
-module _ {inner n : ℕ} {words reverse_mapping est durations : List ℕ} (f : Fillable inner n words reverse_mapping est durations) where
+module _ {tasks : TaskArrays} {words : List ℕ} (f : Fillable tasks words) where
+  abbrev inner : ℕ
+  inner = tasks.size.inner
+
+  abbrev n : ℕ
+  n = tasks.size.leaves
+
   -- the first x leaves are white
   abbrev pub up_to : ℕ → List Leaf
   up_to x = filled (λ _. white) x (replicate f.J.count empty)
@@ -28,17 +35,17 @@ module _ {inner n : ℕ} {words reverse_mapping est durations : List ℕ} (f : F
 
   module _ (x : ℕ) (q : x < n) where
     abbrev t : ℕ
-    t = get_or reverse_mapping x 0
+    t = get_or tasks.reverse_mapping.now x 0
 
     pub task_known : t < TASKS
     task_known = omega (arith, f.task x q, f.known x q)
 
     -- the task that the mapping gives has its place there
-    pub placed : {i : ℕ} → i ≡ get_or reverse_mapping x 0 → {e p : ℕ} → e ≡ get_or est i 0 → p ≡ get_or durations i 0 → HasTask f.J f.est_order x e p
+    pub placed : {i : ℕ} → i ≡ get_or tasks.reverse_mapping.now x 0 → {e p : ℕ} → e ≡ get_or tasks.est.now i 0 → p ≡ get_or tasks.durations.now i 0 → HasTask f.J f.est_order x e p
     placed is s d = record {
       inside = omega (arith, f.count);
-      start = s ∙ ap (λ (k : ℕ). get_or est k 0) (is ∙ f.task x q) ∙ f.start x q;
-      lasts = d ∙ ap (λ (k : ℕ). get_or durations k 0) (is ∙ f.task x q) ∙ f.lasts x q;
+      start = s ∙ ap (λ (k : ℕ). get_or tasks.est.now k 0) (is ∙ f.task x q) ∙ f.start x q;
+      lasts = d ∙ ap (λ (k : ℕ). get_or tasks.durations.now k 0) (is ∙ f.task x q) ∙ f.lasts x q;
     }
 
   -- the words with the first x leaves white

@@ -9,7 +9,7 @@ use lib.IntN.{ℤ, pos, neg_ℤ}
 use lib.ListN.{length, get_or, take, replicate, length-replicate}
 use lib.Seq.{get_or-take}
 use borrow.Author.Tests.{ltb-false}
-use Rattle.integers.specs.Limits.{TASKS, DURATIONS, MIRRORED, U32MAX}
+use Rattle.integers.specs.Limits.{TASKS, INNER, DURATIONS, MIRRORED, U32MAX}
 use Rattle.integers.specs.FilledLists.{filled, no_tasks}
 use Rattle.integers.specs.Moments.{instant, zero_at, Above, moment_at, completion_at}
 use Rattle.integers.specs.Orders.{sort, index, numbers}
@@ -39,7 +39,7 @@ use Rattle.sorts.specs.Orders.{SortedBy, Ranked, by_key, by_key_down}
 use Rattle.sorts.proofs.Ranks.{rank_index}
 use Rattle.sorts.proofs.Sorted.{sorted_as}
 use Rattle.records.specs.declared.record.DisjunctivePropagator.{DisjunctivePropagator}
-use Rattle.records.specs.Records.{record_of}
+use Rattle.propagator.specs.declared.task_arrays.TaskArrays.{TaskArrays}
 use Rattle.propagator.specs.RunArrays.{Ordered, Holds, Slices}
 use Rattle.runs.specs.declared.outcome.Outcome.{Outcome}
 use Rattle.propagator.specs.FilledTheta.{Fillable, Filled}
@@ -168,11 +168,11 @@ module _ {r : DisjunctivePropagator} {es ls : List ℤ} {post_count count_of_ato
     a.words.atoms,
   )
 
-  -- what a run leaves; a record's stored sum stands in no field of that
-  pub left : (stored : ℕ) {posts atoms es' posts' atoms' : List ℤ} {o : Outcome} {c : ℕ} → post_count ≡ length posts → count_of_atoms ≡ length atoms
+  -- what a run leaves
+  pub left : {posts atoms es' posts' atoms' : List ℤ} {o : Outcome} {c : ℕ} → post_count ≡ length posts → count_of_atoms ≡ length atoms
       → EdgeFound J est_order lct_order posts atoms o c es' posts' atoms'
-      → RunLeft (record_of r.count r.durations stored) es ls posts atoms o c es' posts' atoms'
-  left stored {posts} {atoms} p q d = record {
+      → RunLeft r es ls posts atoms o c es' posts' atoms'
+  left {posts} {atoms} p q d = record {
     answer = rw trace_is d.answer;
     changes = rw trace_is d.changes;
     changes_most = omega (arith, d.changes, changes_most zero_at J proper est_order lct_order by_earliest_is ordered.by_completion_is accepted.some, count);
@@ -235,14 +235,28 @@ module _ {r : DisjunctivePropagator} {es ls : List ℤ} {post_count count_of_ato
         pub places : (x : ℕ) → x < n → get_or mapping x 0 ≡ index est_order x
         places x q = m.at x q ∙ rank_index (by_key est) (key_whole (λ k. get_or est k 0)) (key_chain (λ k. get_or est k 0)) n x q ∙ ap (λ (o : List ℕ). index o x) (sym f.front ∙ front)
 
-        abbrev pub fillable : Fillable made.number_of_internal_nodes n made.nodes reverse_mapping est r.durations
+        -- the arrays that edge finding reads, wherever they stand
+        abbrev pub arrays : (a₁ a₂ a₃ a₄ a₅ a₆ a₇ : ℕ × ℕ) → n ≤ TASKS → made.number_of_internal_nodes ≤ INNER → TaskArrays
+        arrays a₁ a₂ a₃ a₄ a₅ a₆ a₇ few_tasks few_nodes = record {
+          est = record { ref_ptr = a₁; now = est };
+          lst = record { ref_ptr = a₂; now = lst };
+          lct = record { ref_ptr = a₃; now = lct };
+          durations = record { ref_ptr = a₄; now = r.durations };
+          mapping = record { ref_ptr = a₅; now = mapping };
+          reverse_mapping = record { ref_ptr = a₆; now = reverse_mapping };
+          sorted_tasks = record { ref_ptr = a₇; now = sorted_tasks };
+          size = record { inner = made.number_of_internal_nodes; height = made.height; leaves = n };
+          few_tasks = few_tasks;
+          few_nodes = few_nodes;
+        }
+
+        abbrev pub fillable : {a₁ a₂ a₃ a₄ a₅ a₆ a₇ : ℕ × ℕ} {f : n ≤ TASKS} {i : made.number_of_internal_nodes ≤ INNER} → Fillable (arrays a₁ a₂ a₃ a₄ a₅ a₆ a₇ f i) made.nodes
         fillable = record {
           J = J;
           est_order = est_order;
           limited = ordered.limited;
           count = count;
           tree = t.empties J est_order count;
-          few = few;
           task = order.at;
           known = λ x q. omega (arith, few, count, by_earliest_is.task x (omega (arith, count)));
           start = λ x q. starts.at (get_or est_order x 0) (omega (arith, count, by_earliest_is.task x (omega (arith, count))));
@@ -254,17 +268,13 @@ module _ {r : DisjunctivePropagator} {es ls : List ℤ} {post_count count_of_ato
         first_lct = ap (λ (k : ℕ). get_or lct k 0) (sorted_tasks_order.at 0 any) ∙ (completions c).at (get_or lct_order 0 0) (omega (arith, first_small, sorted_tasks_order.at 0 any))
 
         -- the tree was filled: the words hold white leaves, and the ect of all tasks is known
-        abbrev pub Full : List ℕ → ℕ → Type 0
-        Full words ect = Filled made.number_of_internal_nodes n made.nodes words reverse_mapping est r.durations ect
-
-        abbrev pub begun : {words : List ℕ} {ect : ℕ} → Full words ect → HeldLeaves made.number_of_internal_nodes words
+        abbrev pub begun : {a₁ a₂ a₃ a₄ a₅ a₆ a₇ : ℕ × ℕ} {f : n ≤ TASKS} {i : made.number_of_internal_nodes ≤ INNER} {words : List ℕ} {ect : ℕ} → Filled (arrays a₁ a₂ a₃ a₄ a₅ a₆ a₇ f i) made.nodes words ect → HeldLeaves made.number_of_internal_nodes words
         begun full = record { J = J; est_order = est_order; leaves = replicate J.count white; limited = ordered.limited; has = (full fillable).0 }
 
-        abbrev pub findable : {words words' : List ℕ} {ect : ℕ} {past : Bool} {posts atoms : List ℤ} → Full words ect
+        abbrev pub findable : {a₁ a₂ a₃ a₄ a₅ a₆ a₇ : ℕ × ℕ} {f : n ≤ TASKS} {i : made.number_of_internal_nodes ≤ INNER} {words words' : List ℕ} {ect : ℕ} {past : Bool} {posts atoms : List ℤ} → Filled (arrays a₁ a₂ a₃ a₄ a₅ a₆ a₇ f i) made.nodes words ect
             → JoinedPast made.number_of_internal_nodes words words' ect (get_or lct (get_or sorted_tasks 0 0) 0) past → post_count ≡ length posts → count_of_atoms ≡ length atoms
-            → EdgeFindable (record { inner = made.number_of_internal_nodes; height = made.height; leaves = n }) ect past words' es posts atoms est lst lct r.durations reverse_mapping
-            sorted_tasks mapping
-        findable {words} {words'} {ect} {past} {posts} {atoms} full k p q = record {
+            → EdgeFindable (arrays a₁ a₂ a₃ a₄ a₅ a₆ a₇ f i) ect past words' es posts atoms
+        findable {ect = ect} {posts = posts} {atoms = atoms} full k p q = record {
           J = J;
           est_order = est_order;
           lct_order = lct_order;

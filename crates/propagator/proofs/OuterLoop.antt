@@ -1,25 +1,27 @@
 -- The outer loop: what it has got to at a level, and how it goes on or ends from there.
 use mathlib.Core.Path.{◌≡◌, refl, sym, ap, subst, ◌∙◌}
-use mathlib.Core.Bool.{Bool, true, false}
+use mathlib.Core.Bool.{Bool, true, false, ◌||◌}
 use mathlib.Core.Logic.{inl, inr}
 use mathlib.Core.Option.{Option}
 use mathlib.Core.List.{List, [], ◌++◌, append-nil}
 use Prim.Native.Nat.{ℕ, suc, ◌+◌, ◌*◌, ◌-◌, ◌^◌, ◌≤◌, ◌<◌}
 use native.Mathlib.Omega.{arith}
 use native.Mathlib.Decide.{dec_lt}
+use lib.Dec.{ltb}
 use lib.IntN.{ℤ}
 use lib.ListN.{length, get_or, set}
 use lib.Seq.{sets, set-set}
+use Rattle.std.specs.Prelude.{Result, Ok, Err}
+use Rattle.std.specs.Int.{from_bool}
+use borrow.Author.Tests.{le-ltb, lt-ltb}
 use Rattle.integers.specs.Limits.{TASKS}
 use Rattle.integers.specs.Moments.{zero_at}
 use Rattle.integers.specs.Orders.{index}
 use Rattle.integers.proofs.Bools.{bool, clash}
 use Rattle.scheduling.specs.Scheduling.{natural, Tasks, Atom, completion}
-use Rattle.trees.specs.declared.complete_tree.TreeSize.{TreeSize}
 use Rattle.trees.specs.Ects.{exceeds, raised_to}
 use Rattle.trees.specs.Leaves as leaves
 use Rattle.trees.specs.Leaves.{Leaf, empty, gray}
-use Rattle.trees.specs.ArraySearches.{theta_in}
 use Rattle.trees.specs.Trees.{IsTree, HasLeaves}
 use Rattle.trees.specs.Operations.{Held, Answers}
 use Rattle.trees.proofs.NodeOrder.{ect_within}
@@ -34,28 +36,39 @@ use Rattle.runs.proofs.QuietLevels.{ect_bar_no_later}
 use Rattle.runs.proofs.InnerLoop.{run_is, inner_end, inner_pass, outer_end, outer_over, outer_on, outer_stop}
 use Rattle.runs.specs.Reached.{Entered, Reached, begins, follows, at_head, moved, turned}
 use Rattle.explanations.specs.Explanations.{ConflictExplainable}
-use Rattle.propagator.specs.declared.disjunctive_propagator.Turn as code
-use Rattle.propagator.specs.declared.disjunctive_propagator.Turn.TheVariants as turn
+use Rattle.propagator.specs.declared.disjunctive_propagator.Emptied.{Emptied}
 use Rattle.propagator.specs.declared.disjunctive_propagator.Written.{Written}
-use Rattle.propagator.specs.RunArrays.{Ordered, SizeFits, Slices, At}
+use Rattle.propagator.specs.declared.task_arrays.TaskArrays.{TaskArrays}
+use Rattle.propagator.specs.RunArrays.{Ordered, theta_shown, Slices, At}
 use Rattle.propagator.specs.Candidates.{nothing_written, counted, Considerable, AllConsidered}
 use Rattle.propagator.proofs.ConsideredTask as considering
 use Rattle.runs.specs.declared.outcome.Outcome.TheVariants as outcome
 use Rattle.runs.specs.declared.outcome.Finished.{Finished}
-use Rattle.propagator.specs.LeavingTheta.{Movable, Recoloured, KnownTurns, left_for}
+use Rattle.propagator.specs.LeavingTheta.{Movable, Recoloured, turn_known, left_for}
 use Rattle.runs.specs.Outcomes.{outcome_numbers}
 use Rattle.runs.specs.EndNumbers.{end_numbers}
 use Rattle.propagator.specs.EdgeFinding.{HeldPast, conflict_of, ConflictExplained, EdgeFindable, EdgeFound}
 use Rattle.propagator.proofs.FirstCandidate.{IsFirst, level_first}
 use Rattle.propagator.proofs.LeavingTheta as leaving
 
-module _ {size : TreeSize} {first : ℕ} {past : Bool} {words : List ℕ} {es posts atoms : List ℤ} {est lst lct durations reverse_mapping sorted_tasks mapping : List ℕ}
-    (s : EdgeFindable size first past words es posts atoms est lst lct durations reverse_mapping sorted_tasks mapping) where
+module _ {tasks : TaskArrays} {first : ℕ} {past : Bool} {words : List ℕ} {es posts atoms : List ℤ} (s : EdgeFindable tasks first past words es posts atoms) where
   abbrev n : ℕ
-  n = size.leaves
+  n = tasks.size.leaves
 
   abbrev inn : ℕ
-  inn = size.inner
+  inn = tasks.size.inner
+
+  abbrev est : List ℕ
+  est = tasks.est.now
+
+  abbrev lct : List ℕ
+  lct = tasks.lct.now
+
+  abbrev durations : List ℕ
+  durations = tasks.durations.now
+
+  abbrev sorted_tasks : List ℕ
+  sorted_tasks = tasks.sorted_tasks.now
 
   abbrev J : Tasks natural
   J = s.J
@@ -88,7 +101,7 @@ module _ {size : TreeSize} {first : ℕ} {past : Bool} {words : List ℕ} {es po
     pub rest : whole ≡ rest_of (n - 1 - t) t st
 
   pub few : n ≤ TASKS
-  few = omega (arith, G.limited.count, s.arrays.count)
+  few = tasks.few_tasks
 
   pub sorted_task_small : (t : ℕ) → t < n → get_or sorted_tasks t 0 < TASKS
   sorted_task_small t q = omega (arith, s.order.at t q, G.by_completion_is.task t (omega (arith, q, s.arrays.count)), G.limited.count)
@@ -122,7 +135,7 @@ module _ {size : TreeSize} {first : ℕ} {past : Bool} {words : List ℕ} {es po
   -- what stands at a state of a level, where words and slices are at it
   abbrev standing : {t c : ℕ} {st : State} {words' : List ℕ} {es' posts' atoms' : List ℤ} {w' : Written} → t < J.count → c ≡ completion J (get_or lct_order t 0)
       → Reached zero_at J est_order lct_order t st → At J est_order posts atoms st inn words' es' posts' atoms' w'.posts w'.atoms w'.changes
-      → Considerable size c words' es' posts' atoms' w' est lst durations reverse_mapping mapping
+      → Considerable tasks c words' es' posts' atoms' w'
   standing {t} {c} {st} small ends reached at = record {
     J = J;
     est_order = est_order;
@@ -223,26 +236,23 @@ module _ {size : TreeSize} {first : ℕ} {past : Bool} {words : List ℕ} {es po
           | no q ↦ clash over (ect_within J est_order v.st.leaves c (omega (arith, v.most)))
         ]
 
-        abbrev here : Considerable size c words' es' posts' atoms' w' est lst durations reverse_mapping mapping
+        abbrev here : Considerable tasks c words' es' posts' atoms' w'
         here = standing small_t c_is (at_head t v.st v.entered) (record { tree = tree_past; slices = v.slices })
 
         abbrev pub shown : Held inn words'
         shown = considering.shown here
 
-        pub over_asked : ConflictExplainable (length atoms') w'.atoms (theta_in words' inn reverse_mapping n) est durations (leaves.sum J est_order v.st.leaves) c
+        pub over_asked : ConflictExplainable (length atoms') w'.atoms (theta_shown tasks words') est durations (leaves.sum J est_order v.st.leaves) c
         over_asked = considering.over_asked here over
 
-        pub size_fits : SizeFits size
-        size_fits = considering.size_fits here
-
-        pub overloads : {r : Finished} {atoms'' : List ℤ} → ConflictExplained atoms' atoms'' w' r (conflict_of shown reverse_mapping n est durations c)
+        pub overloads : {r : Finished} {atoms'' : List ℤ} → ConflictExplained atoms' atoms'' w' r (conflict_of tasks shown c)
             → EdgeFound J est_order lct_order posts atoms r.outcome r.changes es' posts' atoms''
         overloads {r} {atoms''} k = ends v.st (overload reason) is v.slices answer k.changes words_are
           where
             reason : List Atom
             reason = conflict zero_at J end (leaves.sum J est_order v.st.leaves) (leaves.theta J est_order v.st.leaves)
 
-            reason_is : conflict_of shown reverse_mapping n est durations c ≡ reason
+            reason_is : conflict_of tasks shown c ≡ reason
             reason_is = considering.conflict_is here
 
             is : whole ≡ ended zero_at J est_order lct_order v.st (overload reason)
@@ -256,7 +266,7 @@ module _ {size : TreeSize} {first : ℕ} {past : Bool} {words : List ℕ} {es po
                 ∙ rw (v.slices.atom_words_are, v.slices.explained) (reason_stored atoms (reasons v.st.posts) reason)
 
       -- they do not: the task of the level leaves Theta
-      abbrev pub moves : Movable inn words' mapping est durations j joined
+      abbrev pub moves : Movable tasks words' j joined
       moves = leaving.movable G s.arrays t small_t j j_is v.st.leaves v.has v.tree
 
       -- est + p of the level's task fits a word
@@ -273,8 +283,13 @@ module _ {size : TreeSize} {first : ℕ} {past : Bool} {words : List ℕ} {es po
           let k_small : get_or lct_order (suc t) 0 < n = omega (arith, G.by_completion_is.task (suc t) (omega (arith, more, s.arrays.count)), s.arrays.count) in
           ap (λ (u : ℕ). get_or lct (get_or sorted_tasks u 0) 0) one ∙ ap (λ (k : ℕ). get_or lct k 0) (s.order.at (suc t) (omega arith)) ∙ s.completions.at (get_or lct_order (suc t) 0) k_small
 
-      module _ (quiet : exceeds ect c ≡ false) {needed joins : Bool} {taken : ℕ} (known : KnownTurns est durations j last needed taken) {words'' : List ℕ}
-          (m : Recoloured (left_for taken) inn words' words'' mapping est durations j joined joins) {w₁ : Written} (count : w₁ ≡ counted w' (2 + taken)) where
+      -- the inner nodes are joined where the next level needs the tree, or where this one did
+      abbrev joins : Bool → Bool
+      joins before = ltb d last || before
+
+      module _ (quiet : exceeds ect c ≡ false) (before : Bool) {taken : Bool} (known : taken ≡ turn_known tasks j last (ltb d last)) {words'' : List ℕ}
+          (m : Recoloured (left_for taken) tasks words' words'' j joined (joins before)) {k : ℕ} (one_or_none : k ≡ from_bool taken) {w₁ : Written}
+          (count : w₁ ≡ counted w' (2 + k)) where
         -- the leaf of the level's task, and the state in which it is gray
         abbrev x : ℕ
         x = index est_order (get_or lct_order t 0)
@@ -286,22 +301,22 @@ module _ {size : TreeSize} {first : ℕ} {past : Bool} {words : List ℕ} {es po
         still = past_end quiet
 
         -- the leaf has its new colour: in the source a gray leaf takes two leaf changes, and an empty one a third
-        at_place : {k : ℕ} → taken ≡ k → HasLeaves J est_order (set v.st.leaves x (left_for k)) inn words''
-            × (joins ≡ true → IsTree J est_order (set v.st.leaves x (left_for k)) inn words'')
+        at_place : {u : Bool} → taken ≡ u → HasLeaves J est_order (set v.st.leaves x (left_for u)) inn words''
+            × (joins before ≡ true → IsTree J est_order (set v.st.leaves x (left_for u)) inn words'')
         at_place z = rw (sym z, sym (leaving.gray_place G s.arrays t small_t j j_is)) (m moves)
 
-        slices_of : (ls : List Leaf) {k : ℕ} → taken ≡ k
-            → Slices posts atoms (record { leaves = ls; starts = v.st.starts; posts = v.st.posts; changes = v.st.changes + (2 + k) }) es' posts' atoms' w₁.posts w₁.atoms w₁.changes
-        slices_of ls {k} z = rw (count, z) (considering.recounted (2 + k) v.slices)
+        slices_of : (ls : List Leaf) {u : Bool} → taken ≡ u
+            → Slices posts atoms (record { leaves = ls; starts = v.st.starts; posts = v.st.posts; changes = v.st.changes + (2 + from_bool u) }) es' posts' atoms' w₁.posts w₁.atoms w₁.changes
+        slices_of ls {u} z = rw (count, one_or_none, z) (considering.recounted (2 + from_bool u) v.slices)
 
         unfold_level : whole ≡ rest_of (suc (n - 1 - suc t)) t v.st
         unfold_level = v.rest ∙ ap (λ (f : ℕ). rest_of f t v.st) next
 
         -- the next level has no candidate, as the ect_bar known last is not past its lct
-        pub passed_over : needed ≡ false → last ≤ d → Level (t + 1) words'' es' posts' atoms' w₁ last joins
-        passed_over not low =
+        pub passed_over : last ≤ d → Level (t + 1) words'' es' posts' atoms' w₁ last (joins before)
+        passed_over low =
             let one : suc t ≡ t + 1 = omega arith in
-            subst (λ (k : ℕ). Level k words'' es' posts' atoms' w₁ last joins) one (record {
+            subst (λ (k : ℕ). Level k words'' es' posts' atoms' w₁ last (joins before)) one (record {
               st = st₁;
               small = omega arith;
               entered = follows t v.st st₁ v.entered still on_st₁;
@@ -313,65 +328,74 @@ module _ {size : TreeSize} {first : ℕ} {past : Bool} {words : List ℕ} {es po
               rest = unfold_level ∙ outer_on zero_at J est_order lct_order (n - 1 - suc t) t v.st st₁ still on_st₁;
             })
           where
-            none : taken ≡ 0
-            none = elim known [ inl z ↦ z | inr (_, need, _) ↦ clash need not ]
+            none : taken ≡ false
+            none = known ∙ rw (le-ltb d last low) refl
 
             on_st₁ : inner zero_at J est_order lct_order J.count (suc t) st₁ ≡ on st₁
             on_st₁ = quiet_levels.passed_over zero_at J G.proper est_order lct_order G.by_earliest_is G.by_completion_is t v.st small_t v.entered J.count (omega (arith, v.most, low, ends_d))
 
         -- it may have one, and the words hold the tree
-        module _ (is_joined : joins ≡ true) (passes : d < last) where
+        module _ (passes : d < last) where
+          is_joined : joins before ≡ true
+          is_joined = rw (lt-ltb d last passes) refl
+
           -- the state after the turns that are known: the level's task is the first candidate where it alone reaches the ect_bar known last
           pub record Begun : Type 0 where
             pub st : State
             pub reached : Reached zero_at J est_order lct_order (suc t) st
             pub tree : IsTree J est_order st.leaves inn words''
             pub slices : Slices posts atoms st es' posts' atoms' w₁.posts w₁.atoms w₁.changes
-            pub rest : inner zero_at J est_order lct_order n (suc t) st₁ ≡ inner zero_at J est_order lct_order (n - taken) (suc t) st
+            pub rest : inner zero_at J est_order lct_order n (suc t) st₁ ≡ inner zero_at J est_order lct_order (n - k) (suc t) st
 
           pub begun : Begun
-          begun = elim known [
-            | inl z ↦ record {
+          begun = elim (bool taken) [
+            | inr z ↦ record {
               st = st₁;
               reached = moved t v.st v.entered still;
               tree = (at_place z).1 is_joined;
               slices = slices_of st₁.leaves z;
-              rest = ap (λ (f : ℕ). inner zero_at J est_order lct_order f (suc t) st₁) (omega (arith, z));
+              rest = ap (λ (f : ℕ). inner zero_at J est_order lct_order f (suc t) st₁) (omega (arith, none_of z));
             }
-            | inr (z, _, reach) ↦ record {
+            | inl z ↦ record {
               st = dropped st₁ x;
-              reached = turned (suc t) st₁ (dropped st₁ x) (moved t v.st v.entered still) (drops reach 0 ∙ inner_end zero_at J est_order lct_order 0 (suc t) (dropped st₁ x));
+              reached = turned (suc t) st₁ (dropped st₁ x) (moved t v.st v.entered still) (drops z 0 ∙ inner_end zero_at J est_order lct_order 0 (suc t) (dropped st₁ x));
               tree = rw (set-set v.st.leaves x gray empty) ((at_place z).1 is_joined);
               slices = subst (λ (c : ℕ). Slices posts atoms (record { leaves = (dropped st₁ x).leaves; starts = v.st.starts; posts = v.st.posts; changes = c }) es' posts' atoms' w₁.posts
                   w₁.atoms w₁.changes) (omega arith) (slices_of (dropped st₁ x).leaves z);
-              rest = ap (λ (f : ℕ). inner zero_at J est_order lct_order f (suc t) st₁) (omega (arith, more)) ∙ drops reach (n - 1)
-                  ∙ ap (λ (f : ℕ). inner zero_at J est_order lct_order f (suc t) (dropped st₁ x)) (omega (arith, z));
+              rest = ap (λ (f : ℕ). inner zero_at J est_order lct_order f (suc t) st₁) (omega (arith, more)) ∙ drops z (n - 1)
+                  ∙ ap (λ (f : ℕ). inner zero_at J est_order lct_order f (suc t) (dropped st₁ x)) (omega (arith, one_of z));
             }
           ]
             where
-              alone : get_or est j 0 + get_or durations j 0 ≡ last → IsFirst J est_order st₁.leaves (get_or lct_order t 0) (completion J (get_or lct_order (suc t) 0))
-              alone reach = level_first zero_at J G.proper est_order lct_order G.by_earliest_is G.by_completion_is t v.st small_t v.entered last v.most
-                  (omega (arith, reach, s.arrays.starts.at j j_small, s.arrays.lasts.at j j_small, ap J.earliest j_is, ap J.duration j_is))
+              one_of : taken ≡ true → k ≡ 1
+              one_of z = one_or_none ∙ ap from_bool z
+
+              none_of : taken ≡ false → k ≡ 0
+              none_of z = one_or_none ∙ ap from_bool z
+
+              alone : taken ≡ true → IsFirst J est_order st₁.leaves (get_or lct_order t 0) (completion J (get_or lct_order (suc t) 0))
+              alone z = level_first zero_at J G.proper est_order lct_order G.by_earliest_is G.by_completion_is t v.st small_t v.entered last v.most
+                  (omega (arith, leaving.reaches tasks j last (ltb d last) (sym known ∙ z), s.arrays.starts.at j j_small, s.arrays.lasts.at j j_small, ap J.earliest j_is, ap J.duration j_is))
                   (completion J (get_or lct_order (suc t) 0)) (omega (arith, passes, ends_d))
 
-              drops : get_or est j 0 + get_or durations j 0 ≡ last → (f : ℕ) → inner zero_at J est_order lct_order (suc f) (suc t) st₁ ≡ inner zero_at J est_order lct_order f (suc t) (dropped st₁ x)
-              drops reach f = inner_pass zero_at J est_order lct_order f (suc t) st₁ x (alone reach).past (alone reach).found
+              drops : taken ≡ true → (f : ℕ) → inner zero_at J est_order lct_order (suc f) (suc t) st₁ ≡ inner zero_at J est_order lct_order f (suc t) (dropped st₁ x)
+              drops z f = inner_pass zero_at J est_order lct_order f (suc t) st₁ x (alone z).past (alone z).found
                   (subst (λ (k : ℕ). exceeds (leaves.ect J est_order st₁.leaves) (J.earliest k) ≡ false) (sym (G.by_earliest_is.there (get_or lct_order t 0) (G.by_completion_is.task t small_t)))
-                  (alone reach).not_raised)
+                  (alone z).not_raised)
 
-          abbrev pub goes_on : Considerable size d words'' es' posts' atoms' w₁ est lst durations reverse_mapping mapping
+          abbrev pub goes_on : Considerable tasks d words'' es' posts' atoms' w₁
           goes_on = standing (omega (arith, more, s.arrays.count)) ends_d begun.reached (record { tree = begun.tree; slices = begun.slices })
 
-          inner_is : {u : Turn} → inner zero_at J est_order lct_order (n - taken) (suc t) begun.st ≡ u → inner zero_at J est_order lct_order J.count (suc t) st₁ ≡ u
+          inner_is : {u : Turn} → inner zero_at J est_order lct_order (n - k) (suc t) begun.st ≡ u → inner zero_at J est_order lct_order J.count (suc t) st₁ ≡ u
           inner_is z = ap (λ (f : ℕ). inner zero_at J est_order lct_order f (suc t) st₁) s.arrays.count ∙ begun.rest ∙ z
 
           -- the inner loop ended,
-          pub one_more : {words''' : List ℕ} {es'' posts'' atoms'' : List ℤ} {w'' : Written} {u : code.Turn} → u ≡ turn.On w'' → AllConsidered goes_on (n - taken) u words''' es'' posts'' atoms''
-              → {last' : ℕ} → Told words''' last' → Level (t + 1) words''' es'' posts'' atoms'' w'' last' joins
+          pub one_more : {words''' : List ℕ} {es'' posts'' atoms'' : List ℤ} {w'' : Written} {u : Result Written Emptied} → u ≡ Ok w'' → AllConsidered goes_on (n - k) u words''' es'' posts'' atoms''
+              → {last' : ℕ} → Told words''' last' → Level (t + 1) words''' es'' posts'' atoms'' w'' last' (joins before)
           one_more {words'''} {es''} {posts''} {atoms''} {w''} is all {last'} told =
               let (st', a, z) = rw is at all in
               let one : suc t ≡ t + 1 = omega arith in
-              subst (λ (k : ℕ). Level k words''' es'' posts'' atoms'' w'' last' joins) one (record {
+              subst (λ (k : ℕ). Level k words''' es'' posts'' atoms'' w'' last' (joins before)) one (record {
                 st = st';
                 small = omega arith;
                 entered = follows t v.st st' v.entered still (inner_is z);
@@ -384,8 +408,8 @@ module _ {size : TreeSize} {first : ℕ} {past : Bool} {words : List ℕ} {es po
               })
 
           -- or a post emptied a range
-          pub one_emptied : (words''' : List ℕ) {es'' posts'' atoms'' : List ℤ} {w'' : Written} {u : code.Turn} {r : Finished} → u ≡ turn.Emptied w''
-              → AllConsidered goes_on (n - taken) u words''' es'' posts'' atoms''
+          pub one_emptied : (words''' : List ℕ) {es'' posts'' atoms'' : List ℤ} {w'' : Written} {u : Result Written Emptied} {r : Finished} → u ≡ Err (record { 0 = w'' })
+              → AllConsidered goes_on (n - k) u words''' es'' posts'' atoms''
               → (r.outcome ≡ outcome.Emptied w''.posts) × (r.changes ≡ w''.changes) → EdgeFound J est_order lct_order posts atoms r.outcome r.changes es'' posts'' atoms''
           one_emptied words''' {es''} {posts''} {atoms''} {w''} is all f =
               let (st', a, z) = rw is at all in

@@ -8,16 +8,18 @@ use native.Mathlib.Omega.{arith}
 use lib.IntN.{ℤ, pos}
 use lib.ListN.{length}
 use lib.Seq.{sets}
+use Rattle.std.specs.Prelude.{None}
 use Rattle.integers.specs.Limits.{TASKS, ATOMS}
 use Rattle.integers.specs.Moments.{instant, zero_at}
 use Rattle.scheduling.specs.Scheduling.{Atom}
 use Rattle.trees.specs.Ects.{exceeds}
 use Rattle.post_words.specs.Posts.{PostFits}
-use Rattle.trees.specs.declared.theta_lambda_tree.Responsible.TheVariants as responsible
-use Rattle.trees.specs.ArraySearches.{responsible_of, white_in, task_in, theta_in}
+use Rattle.trees.specs.ArraySearches.{responsible_of}
 use Rattle.runs.specs.Runs.{propagation}
 use Rattle.runs.proofs.ReasonLengths.{propagation_length}
 use Rattle.runs.proofs.AtomRoom.{theta_few}
+use Rattle.explanations.specs.declared.theta.Theta.{Theta}
+use Rattle.explanations.specs.Leaves.{white_of, task_at, tasks_of}
 use Rattle.explanations.specs.WrittenAtoms.{starting}
 use Rattle.post_words.specs.StoredAtoms.{Stored}
 use Rattle.propagator.specs.declared.disjunctive_propagator.Written.{Written}
@@ -27,7 +29,7 @@ use Rattle.runs.specs.declared.outcome.Outcome.TheVariants as outcome
 use Rattle.runs.specs.declared.outcome.Finished.{Finished}
 
 module _ (reverse_mapping : List ℕ) (lct : ℕ) (bar found : Option ℕ) where
-  pub candidate_none : exceeds bar lct ≡ false → responsible.Nothing ≡ candidate_of reverse_mapping lct bar found
+  pub candidate_none : exceeds bar lct ≡ false → None ≡ candidate_of reverse_mapping lct bar found
   unfolding candidate_of
   candidate_none q = rw (q, candidate_of)
 
@@ -36,10 +38,9 @@ module _ (reverse_mapping : List ℕ) (lct : ℕ) (bar found : Option ℕ) where
   candidate_some q = rw (q, candidate_of)
 
 -- the reason of a post is short, by the tasks of Theta
-pub reason_few : (words : List ℕ) (inner : ℕ) (reverse_mapping : List ℕ) (n : ℕ) (es ds : List ℕ) (i b lct p : ℕ) → n ≤ TASKS
-    → length (propagation zero_at (starting es ds) i b lct p (theta_in words inner reverse_mapping n)) ≤ 97
-reason_few words inner reverse_mapping n es ds i b lct p q =
-    omega (arith, propagation_length zero_at (starting es ds) i b lct p (theta_in words inner reverse_mapping n), theta_few (white_in words inner) (task_in reverse_mapping) 0 n)
+pub reason_few : (t : Theta) (i b lct p : ℕ) → length (propagation zero_at (starting t.est.now t.durations.now) i b lct p (tasks_of t)) ≤ 97
+reason_few t i b lct p =
+    omega (arith, propagation_length zero_at (starting t.est.now t.durations.now) i b lct p (tasks_of t), theta_few (white_of t) (task_at t) 0 t.n, t.tasks)
 
 -- a reason that stands where the explanation has written it: how long it is, and the words of a post or of an overload
 module _ {atoms atoms' : List ℤ} {k end : ℕ} {reason : List Atom} (s : Stored atoms atoms' k end reason) where

@@ -3,11 +3,9 @@ use Rattle.std.specs.Prelude.{◌≡◌, Bool, true, false, List, ◌++◌, ℕ,
 use Rattle.std.proofs.lemmas.List.Edits.{sets}
 use Rattle.integers.specs.Moments.{zero_at}
 use Rattle.scheduling.specs.Scheduling.{natural, Tasks, Atom, completion}
-use Rattle.trees.specs.declared.complete_tree.TreeSize.{TreeSize}
 use Rattle.trees.specs.Ects.{raised_to}
 use Rattle.trees.specs.Leaves.{Leaf, ect_bar_of, sum}
 use Rattle.trees.specs.Trees.{Limited, IsTree, HasLeaves}
-use Rattle.trees.specs.ArraySearches.{theta_in}
 use Rattle.trees.specs.Operations.{Held, HeldLeaves}
 use Rattle.runs.specs.Runs.{conflict, run, all_white}
 use Rattle.scheduling.specs.Words.{atom_words}
@@ -16,7 +14,8 @@ use Rattle.runs.specs.Outcomes.{outcome_numbers}
 use Rattle.runs.specs.EndNumbers.{trace_numbers}
 use Rattle.explanations.specs.WrittenAtoms.{starting}
 use Rattle.propagator.specs.declared.disjunctive_propagator.Written.{Written}
-use Rattle.propagator.specs.RunArrays.{Ordered, Holds, Arrays, Slices}
+use Rattle.propagator.specs.declared.task_arrays.TaskArrays.{TaskArrays}
+use Rattle.propagator.specs.RunArrays.{Ordered, Holds, Arrays, theta_shown, Slices}
 use Rattle.runs.specs.declared.outcome.Outcome.{Outcome}
 use Rattle.runs.specs.declared.outcome.Outcome.TheVariants as outcome
 use Rattle.runs.specs.declared.outcome.Finished.{Finished}
@@ -37,9 +36,8 @@ pub record JoinedPast (inner : ℕ) (words words' : List ℕ) (last moment : ℕ
   pub tree : (l : HeldLeaves inner words) → joined ≡ true → IsTree l.J l.est_order l.leaves inner words'
 
 -- the reason of an overload, by the tree and the arrays
-abbrev pub conflict_of : {inner : ℕ} {words : List ℕ} → Held inner words → List ℕ → ℕ → List ℕ → List ℕ → ℕ → List Atom
-conflict_of {inner} {words} h reverse_mapping n est durations lct =
-    conflict zero_at (starting est durations) lct (sum h.J h.est_order h.leaves) (theta_in words inner reverse_mapping n)
+abbrev pub conflict_of : (tasks : TaskArrays) {words : List ℕ} → Held tasks.size.inner words → ℕ → List Atom
+conflict_of tasks {words} h lct = conflict zero_at (starting tasks.est.now tasks.durations.now) lct (sum h.J h.est_order h.leaves) (theta_shown tasks words)
 
 -- it stands after the atoms written so far
 pub record ConflictExplained (atoms atoms' : List ℤ) (w : Written) (r : Finished) (reason : List Atom) : Type 0 where
@@ -49,23 +47,22 @@ pub record ConflictExplained (atoms atoms' : List ℤ) (w : Written) (r : Finish
 
 -- What edge finding is given: the tasks in both orders, the arrays that hold them, their ect, room for posts and reasons, and all leaves white. Where the ect
 -- is past the first lct, their tree is there too.
-pub record EdgeFindable (size : TreeSize) (ect : ℕ) (past : Bool) (words : List ℕ) (es posts atoms : List ℤ)
-    (est lst lct durations reverse_mapping sorted_tasks mapping : List ℕ) : Type 0 where
+pub record EdgeFindable (tasks : TaskArrays) (ect : ℕ) (past : Bool) (words : List ℕ) (es posts atoms : List ℤ) : Type 0 where
   pub J : Tasks natural
   pub est_order : List ℕ
   pub lct_order : List ℕ
   pub ordered : Ordered J est_order lct_order
-  pub arrays : Arrays J est_order size est durations reverse_mapping mapping
-  pub latest : Holds size.leaves J.latest lst
-  pub completions : Holds size.leaves (completion J) lct
-  pub order : Holds size.leaves (λ t. get_or lct_order t 0) sorted_tasks
-  pub post_room : 4 * size.leaves ≤ length posts
-  pub atom_room : 6 * (size.leaves * size.leaves) ≤ length atoms
+  pub arrays : Arrays J est_order tasks
+  pub latest : Holds tasks.size.leaves J.latest tasks.lst.now
+  pub completions : Holds tasks.size.leaves (completion J) tasks.lct.now
+  pub order : Holds tasks.size.leaves (λ t. get_or lct_order t 0) tasks.sorted_tasks.now
+  pub post_room : 4 * tasks.size.leaves ≤ length posts
+  pub atom_room : 6 * (tasks.size.leaves * tasks.size.leaves) ≤ length atoms
   pub ect_is : ect ≡ raised_to 0 (ect_bar_of J est_order (all_white J).leaves)
-  pub has : HasLeaves J est_order (all_white J).leaves size.inner words
-  pub tree : past ≡ true → IsTree J est_order (all_white J).leaves size.inner words
+  pub has : HasLeaves J est_order (all_white J).leaves tasks.size.inner words
+  pub tree : past ≡ true → IsTree J est_order (all_white J).leaves tasks.size.inner words
   pub unjoined : past ≡ false → ect ≤ completion J (get_or lct_order 0 0)
-  pub slices : Slices posts atoms (all_white J) es posts atoms 0 0 size.leaves
+  pub slices : Slices posts atoms (all_white J) es posts atoms 0 0 tasks.size.leaves
 
 -- What it leaves: the trace of the run's definition.
 pub record EdgeFound (J : Tasks natural) (est_order lct_order : List ℕ) (posts atoms : List ℤ) (r : Outcome) (changed : ℕ)

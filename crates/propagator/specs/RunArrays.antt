@@ -1,17 +1,21 @@
 -- What the code of a run holds: the tasks in arrays, the tree, the slices that it writes, and how far it has got.
 use Rattle.std.specs.Prelude.{◌≡◌, true, List, map, ℕ, ◌+◌, ◌*◌, ◌^◌, ◌≤◌, ◌<◌, ℤ, length, get_or}
 use Rattle.std.proofs.lemmas.List.Edits.{sets}
-use Rattle.integers.specs.Limits.{TASKS, INNER}
+use Rattle.integers.specs.Limits.{TASKS}
 use Rattle.integers.specs.Moments.{instant, zero_at}
 use Rattle.integers.specs.Orders.{index}
 use Rattle.scheduling.specs.Scheduling.{natural, Tasks, Proper, processing, completion}
 use Rattle.scheduling.specs.Moments.{ByEarliest, ByCompletion}
-use Rattle.trees.specs.declared.complete_tree.TreeSize.{TreeSize}
+use Rattle.trees.specs.declared.disjunctive_task.DisjunctiveTask.{DisjunctiveTask}
+use Rattle.trees.specs.ArraySearches.{theta_in}
+use Rattle.explanations.specs.declared.theta.Theta.{Theta}
+use Rattle.explanations.specs.Leaves.{tasks_of}
 use Rattle.trees.specs.Trees.{Limited, IsTree}
 use Rattle.trees.specs.Shapes.{height_for}
 use Rattle.runs.specs.Runs.{State}
 use Rattle.scheduling.specs.Words.{atom_words}
 use Rattle.runs.specs.Words.{post_words, reasons}
+use Rattle.propagator.specs.declared.task_arrays.TaskArrays.{TaskArrays}
 
 -- The tasks J in the orders `est_order`, by earliest start, and `lct_order`, by latest completion; no sum that a run forms of them wraps.
 pub record Ordered (J : Tasks natural) (est_order lct_order : List ℕ) : Type 0 where
@@ -28,19 +32,29 @@ pub record Holds (n : ℕ) (f : ℕ → ℕ) (array : List ℕ) : Type 0 where
   pub size : length array ≡ TASKS
   pub at : (k : ℕ) → k < n → get_or array k 0 ≡ f k
 
--- a tree that the arrays have room for
-pub record SizeFits (size : TreeSize) : Type 0 where
-  pub leaves : size.leaves ≤ TASKS
-  pub inner : size.inner ≤ INNER
-
 -- The arrays that a run reads: the earliest starts and the durations of the tasks, the task of each leaf and the leaf of each task; and the tree's size.
-pub record Arrays (J : Tasks natural) (est_order : List ℕ) (size : TreeSize) (est durations reverse_mapping mapping : List ℕ) : Type 0 where
-  pub count : J.count ≡ size.leaves
-  pub starts : Holds size.leaves J.earliest est
-  pub lasts : Holds size.leaves J.duration durations
-  pub reverse_mapping_is : Holds size.leaves (λ j. get_or est_order j 0) reverse_mapping
-  pub places : (k : ℕ) → k < size.leaves → get_or mapping k 0 ≡ index est_order k
-  pub tall : size.height ≡ height_for size.leaves
+pub record Arrays (J : Tasks natural) (est_order : List ℕ) (tasks : TaskArrays) : Type 0 where
+  pub count : J.count ≡ tasks.size.leaves
+  pub starts : Holds tasks.size.leaves J.earliest tasks.est.now
+  pub lasts : Holds tasks.size.leaves J.duration tasks.durations.now
+  pub reverse_mapping_is : Holds tasks.size.leaves (λ j. get_or est_order j 0) tasks.reverse_mapping.now
+  pub places : (k : ℕ) → k < tasks.size.leaves → get_or tasks.mapping.now k 0 ≡ index est_order k
+  pub tall : tasks.size.height ≡ height_for tasks.size.leaves
+
+-- A task as the tree takes it is the i-th of the arrays.
+pub record IsTaskOf (tasks : TaskArrays) (i : ℕ) (task : DisjunctiveTask) : Type 0 where
+  pub start : task.start_time ≡ get_or tasks.est.now i 0
+  pub lasts : task.processing_time ≡ get_or tasks.durations.now i 0
+
+-- the tasks of Theta, which the tree's words and the task of each leaf show
+abbrev pub theta_shown : TaskArrays → List ℕ → List ℕ
+theta_shown tasks words = theta_in words tasks.size.inner tasks.reverse_mapping.now tasks.size.leaves
+
+-- A Theta of these tasks, beside the arrays of earliest starts and durations.
+pub record ShowsTheta (tasks : TaskArrays) (words : List ℕ) (theta : Theta) : Type 0 where
+  pub tasks_are : tasks_of theta ≡ theta_shown tasks words
+  pub est_is : theta.est.now ≡ tasks.est.now
+  pub durations_are : theta.durations.now ≡ tasks.durations.now
 
 -- What a run has written at the state st: the slices hold its starts, posts and reasons over what stood there at entry, and its leaf changes are counted.
 pub record Slices (posts₀ atoms₀ : List ℤ) (st : State) (es posts atoms : List ℤ) (many far changed : ℕ) : Type 0 where

@@ -2,3 +2,4 @@
 #![tactic(auto)]
 
 pub mod disjunctive_propagator;
+mod task_arrays;

@@ -1,24 +1,33 @@
 -- The test of the bars says when they fit.
-use mathlib.Core.Path.{◌≡◌, refl}
+use mathlib.Core.Path.{◌≡◌, refl, sym, ap, ◌∙◌}
 use mathlib.Core.Bool.{Bool, true, false, not, ◌&&◌}
 use mathlib.Core.Logic.{⊎_elim, ◌↔◌}
 use mathlib.Core.List.{List, [], ◌∷◌}
 use Prim.Native.Nat.{ℕ, zero, suc, ◌≤◌, ◌<◌}
 use native.Mathlib.Omega.{arith}
-use lib.Dec.{leb}
+use lib.Dec.{leb, eqb}
+use mir.Syntax.{w32}
+use mir.Val.{SFits, of_z}
 use lib.IntN.{ℤ}
 use lib.ListN.{length, get_or}
 use lib.Signed.{lt_z}
-use borrow.Author.Tests.{leb-true, le-leb, lt-leb}
+use borrow.Author.Tests.{leb-true, le-leb, lt-leb, eqb-true, eqb-false}
 use Rattle.integers.specs.Limits.{BARS}
-use Rattle.integers.proofs.Bools.{clash, and_true, and_yes, and_left, and_is}
-use Rattle.integers.proofs.Ints.{ints}
+use Rattle.integers.proofs.Bools.{bool, clash, and_true, and_yes, and_left, and_is}
+use Rattle.integers.proofs.Ints.{ints, same_bits}
 use Rattle.holes.specs.Holes.{Ascending}
-use Rattle.integers.specs.WholeNumbers.{has}
-use Rattle.integers.proofs.WholeNumbers.{lt_lt_z, has_head, has_cases, has_none}
+use Rattle.integers.specs.WholeNumbers.{eq_z, has}
+use Rattle.integers.proofs.WholeNumbers.{same_eq_z, other_eq_z, lt_lt_z, has_head, has_cases, has_none}
 use Rattle.ranges.specs.declared.range.Range.{Range}
 use Rattle.ranges.specs.Bars.{bars_of, ascends, bars_are_fit, all_bars_are_fit, BarsFit}
 use Rattle.ranges.specs.Ranges.{any_range}
+
+-- two numbers of 32 bits are equal where their bits are
+pub eq_bits : {a b : ℤ} → SFits w32 a → SFits w32 b → eqb (of_z w32 a) (of_z w32 b) ≡ eq_z a b
+eq_bits {a} {b} f g = ⊎_elim
+    (λ y. y ∙ sym (same_eq_z (same_bits w32 f g (eqb-true _ _ y))))
+    (λ n. n ∙ sym (other_eq_z {a = a} {b = b} (λ e. eqb-false _ _ n (ap (of_z w32) e))))
+    (bool (eqb (of_z w32 a) (of_z w32 b)))
 
 -- each below the next, so each below all that follow it
 ascends_true : (bs : List ℤ) → ascends bs ≡ true → Ascending bs

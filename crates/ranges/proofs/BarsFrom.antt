@@ -9,6 +9,7 @@ use lib.IntN.{ℤ, pos}
 use lib.ListN.{length, get_or, drop, length-take, length-drop, drop_of_length-le}
 use lib.Seq.{drop-cons, get_or-take, length-take-le}
 use lib.Signed.{lt_z}
+use Rattle.std.specs.List.{list_all}
 use Rattle.integers.specs.Limits.{BARS}
 use Rattle.integers.specs.WholeNumbers.{eq_z, has}
 use Rattle.ranges.specs.declared.range.Range.{Range}
@@ -87,11 +88,8 @@ module _ (y : Range) where
   unfolding fit_from
   fit_end i one h = rw (ascends_end (bars_of y) i one h, has_end (bars_of y) i y.earliest h, has_end (bars_of y) i y.latest h)
 
--- ---- the ranges from place i on
-pub all_on : (ys : List Range) (i : ℕ) (d : Range) → i < length ys → all_bars_are_fit (drop i ys) ≡ bars_are_fit (get_or ys i d) && all_bars_are_fit (drop (i + 1) ys)
+-- ---- the test of all ranges, in std's words
+pub all_is : (ys : List Range) → list_all bars_are_fit ys ≡ all_bars_are_fit ys
 unfolding all_bars_are_fit
-all_on ys i d h = rw (add-one i) (ap all_bars_are_fit (drop-cons ys i d h))
-
-pub all_end : (ys : List Range) (i : ℕ) → length ys ≤ i → all_bars_are_fit (drop i ys) ≡ true
-unfolding all_bars_are_fit
-all_end ys i h = ap all_bars_are_fit (drop_of_length-le ys {i = i} h)
+all_is [] = refl
+all_is (y ∷ ys) = ap (λ (t : Bool). bars_are_fit y && t) (all_is ys)

@@ -2,7 +2,10 @@
 use mathlib.Core.Path.{◌≡◌, refl, ap, ◌∙◌, subst}
 use mathlib.Core.Bool.{Bool, true, false, cond, ◌&&◌}
 use mathlib.Core.Logic.{⊎_elim}
-use mathlib.Core.List.{List, [], ◌∷◌}
+use mathlib.Core.List.{List, [], ◌∷◌, reverse}
+use Rattle.std.specs.List.{fold}
+use Rattle.std.proofs.lemmas.List.{reverse-append}
+use Rattle.std.proofs.lemmas.List.Sums.{fold-append}
 use lib.IntN.{ℤ, pos, negsuc, ◌+ℤ◌}
 use lib.Signed.{lt_z, ◌≤ℤ◌, ◌<ℤ◌}
 use Rattle.integers.proofs.Bools.{bool}
@@ -27,6 +30,12 @@ past_up l b z h n = by (eq_z b z) refl
         let s : z <ℤ l = ⊎_elim (λ y. omega ints) (λ y. absurd (n (let q : b ≡ z = eq_z_same b z e in omega ints))) (bool (lt_z z l)) in
         (ap (λ (t : Bool). cond t (z +ℤ pos 1) z) (lt_lt_z z l s), omega (ints, sumℤ z (pos 1)))
     by false e = (refl, h)
+
+-- the walk over the bars, as the code folds it
+pub onward_is : (l z : ℤ) (bs : List ℤ) → fold (λ x b. past_the_bar l b x) z bs ≡ moved_onward l z bs
+unfolding moved_onward
+onward_is l z [] = refl
+onward_is l z (b ∷ bs) = onward_is l (past_the_bar l b z) bs
 
 moved_on : (l z : ℤ) (bs : List ℤ) → z ≤ℤ l → (has bs l ≡ true → ⊥) → moved_onward l z bs ≡ first_at_or_after z bs
 unfolding moved_onward first_at_or_after
@@ -68,6 +77,14 @@ before_down l b z h n = by (eq_z b z) refl
         let s : l <ℤ z = ⊎_elim (λ y. omega ints) (λ y. absurd (n (let q : b ≡ z = eq_z_same b z e in omega ints))) (bool (lt_z l z)) in
         (ap (λ (t : Bool). cond t (z +ℤ negsuc 0) z) (lt_lt_z l z s), omega (ints, sumℤ z (negsuc 0)))
     by false e = (refl, h)
+
+-- the walk over the bars from the last one, as the code folds it
+pub backward_is : (l z : ℤ) (bs : List ℤ) → fold (λ x b. before_the_bar l b x) z (reverse bs) ≡ moved_backward l z bs
+unfolding moved_backward
+backward_is l z [] = refl
+backward_is l z (b ∷ bs) =
+    ap (fold (λ x c. before_the_bar l c x) z) (reverse-append (b ∷ []) bs) ∙ fold-append (λ x c. before_the_bar l c x) z (reverse bs) (b ∷ [])
+    ∙ ap (before_the_bar l b) (backward_is l z bs)
 
 moved_back : (l z : ℤ) (bs : List ℤ) → l ≤ℤ z → (has bs l ≡ true → ⊥) → (moved_backward l z bs ≡ last_at_or_before z bs) × (l ≤ℤ last_at_or_before z bs)
 unfolding moved_backward last_at_or_before

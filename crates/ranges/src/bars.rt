@@ -1,5 +1,5 @@
-// Whether the barred starts of a range fit. A range goes by value: it is read in small parts, and nothing of it is changed.
-ghost use Rattle.std.specs.Prelude.{◌≡◌, ◌&&◌, ◌≤◌, length};
+// The barred starts of a range, and whether they fit.
+ghost use Rattle.std.specs.Prelude.{◌≡◌, ◌&&◌, ◌≤◌};
 ghost use Rattle.std.specs.Int.Signed.{lt_z};
 ghost use Rattle.integers.specs.Limits.{BARS};
 ghost use Rattle.ranges.specs.Bars.{bars_of, is_inside, bars_are_fit, all_bars_are_fit};
@@ -7,81 +7,60 @@ ghost use Rattle.ranges.specs.Bars.{bars_of, is_inside, bars_are_fit, all_bars_a
 use crate::range::Range;
 use integers::limits::BARS;
 
-// How many places are read: the count, and no more than there are.
-pub fn places(range: Range) -> usize
-    ensures { result ≡ length (bars_of range) }
-{
-    if range.count <= BARS {
-        return range.count;
+impl Range {
+    // The barred starts: as many places as the count says, and no more than there are.
+    pub(crate) fn bars(&self) -> &[i32]
+        ensures { result.now ≡ bars_of self.now }
+    {
+        &self.barred[..self.count.min(BARS)]
     }
-    BARS
-}
 
-// Whether the bar is neither end of the range.
-fn inside(range: Range, bar: i32) -> bool
-    ensures { result ≡ is_inside range bar }
-{
-    if bar == range.earliest {
-        return false;
+    // Whether the bar is neither end of the range.
+    #[tactic(auto, using(crate::proofs::BarTests::eq_bits), unfolding(crate::specs::Bars::is_inside))]
+    fn inside(&self, bar: i32) -> bool
+        ensures { result ≡ is_inside self.now bar }
+    {
+        bar != self.earliest && bar != self.latest
     }
-    if bar == range.latest {
-        return false;
-    }
-    true
-}
 
-// Whether the bar is past the one before it, and neither end of the range.
-fn follows(range: Range, before: i32, bar: i32) -> bool
-    ensures { result ≡ lt_z before bar && is_inside range bar }
-{
-    if bar <= before {
-        return false;
+    // Whether the bar is past the one before it, and neither end of the range.
+    fn follows(&self, before: i32, bar: i32) -> bool
+        ensures { result ≡ lt_z before bar && is_inside self.now bar }
+    {
+        before < bar && self.inside(bar)
     }
-    inside(range, bar)
-}
 
-// Whether the barred starts ascend and neither end of the range is one of them, in one pass.
-fn places_fit(range: Range) -> bool
-    requires { (1 ≤ range.count) × (range.count ≤ BARS) }
-    ensures { result ≡ bars_are_fit range }
-{
-    if !inside(range, range.barred[0]) {
-        return false;
-    }
-    let mut i = 1;
-    while i < range.count {
-        if !follows(range, range.barred[i - 1], range.barred[i]) {
+    // Whether the barred starts ascend and neither end of the range is one of them, in one pass.
+    fn places_fit(&self) -> bool
+        requires { (1 ≤ self.now.count) × (self.now.count ≤ BARS) }
+        ensures { result ≡ bars_are_fit self.now }
+    {
+        if !self.inside(self.barred[0]) {
             return false;
         }
-        i += 1;
+        for i in 1..self.count {
+            if !self.follows(self.barred[i - 1], self.barred[i]) {
+                return false;
+            }
+        }
+        true
     }
-    true
-}
 
-// Whether there is room for the barred starts, they ascend, and neither end of the range is one of them. Where there are none, no place is copied.
-fn bars_fit(range: Range) -> bool
-    ensures { result ≡ bars_are_fit range }
-{
-    if range.count == 0 {
-        return true;
+    // Whether there is room for the barred starts, they ascend, and neither end of the range is one of them. Where there are none, no place is read.
+    #[tactic(auto, using(crate::proofs::BarTests::fit_none, crate::proofs::BarTests::fit_many))]
+    fn bars_fit(&self) -> bool
+        ensures { result ≡ bars_are_fit self.now }
+    {
+        if self.count == 0 {
+            return true;
+        }
+        self.count <= BARS && self.places_fit()
     }
-    if range.count > BARS {
-        return false;
-    }
-    places_fit(range)
 }
 
 // Whether the bars of every range fit.
 pub fn all_bars_fit(ranges: &[Range]) -> bool
     ensures { result ≡ all_bars_are_fit ranges.now }
 {
-    let count = ranges.len();
-    let mut i = 0;
-    while i < count {
-        if !bars_fit(ranges[i]) {
-            return false;
-        }
-        i += 1;
-    }
-    true
+    ranges.iter().all(|range| range.bars_fit())
 }

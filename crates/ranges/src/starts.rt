@@ -8,7 +8,8 @@ use crate::moves::{stored_latest, stored_start};
 use crate::range::Range;
 use integers::limits::TASKS;
 
-// Ranges, taken apart: their numbers stand in the first `count` places, zeros after them.
+// Ranges, taken apart: their numbers stand in the first `count` places, zeros after them. Nothing allocates, so the memory is fixed, and a call lends the two
+// arrays in their first places as slices.
 #[derive(Clone, Copy)]
 pub struct Starts {
     pub count: usize,
@@ -24,13 +25,11 @@ pub struct StartsWithBars {
 }
 
 // How many of `n` ranges are taken apart. More ranges than any record has tasks are refused for their count, and so are none: then none is taken.
+#[tactic(auto, unfolding(crate::specs::TakenApart::taken))]
 fn fitting(n: usize) -> usize
     ensures { result ≡ taken n }
 {
-    if n <= TASKS {
-        return n;
-    }
-    0
+    if n <= TASKS { n } else { 0 }
 }
 
 // The two numbers of each range go into the first places of the arrays, whose other places are unchanged. How many ranges were taken apart is answered.
@@ -38,12 +37,9 @@ pub fn take_apart(ranges: &[Range], earliest: &mut [i32; TASKS], latest: &mut [i
     ensures { TakenInto ranges.now earliest.old latest.old result earliest.new latest.new }
 {
     let count = fitting(ranges.len());
-    let mut i = 0;
-    while i < count {
-        let range = ranges[i];
+    for (i, range) in ranges[..count].iter().enumerate() {
         earliest[i] = range.earliest;
         latest[i] = range.latest;
-        i += 1;
     }
     count
 }
@@ -63,6 +59,7 @@ pub fn starts_of(ranges: &[Range]) -> Starts
 }
 
 // The starts, and the answer about the bars: for the calls that ask for it.
+#[tactic(auto, unfolding(crate::specs::TakenApart::starts_and_bars))]
 pub fn starts_with_bars(ranges: &[Range]) -> StartsWithBars
     ensures { result ≡ starts_and_bars ranges.now }
 {
@@ -71,28 +68,26 @@ pub fn starts_with_bars(ranges: &[Range]) -> StartsWithBars
     StartsWithBars { starts, bars_fit }
 }
 
-// The earliest starts, put back into the ranges that they were taken from: one that was raised moves on to a permitted value.
+// The earliest starts, put back into the ranges that they were taken from: one that was raised moves on to a permitted value. The index stands because after
+// a `zip` with `iter_mut` nothing is known of the values that were written. One function for this and the next would take a closure that writes the field, and
+// each call would be as long as its loop.
+#[tactic(auto, using(crate::proofs::StoredStarts::with_none, crate::proofs::StoredStarts::start_more))]
 pub fn store_starts(ranges: &mut [Range], starts: &[i32])
     requires { length starts.now ≤ length ranges.old }
     ensures { ranges.new ≡ with_starts ranges.old starts.now }
 {
-    let count = starts.len();
-    let mut i = 0;
-    while i < count {
-        ranges[i].earliest = stored_start(ranges[i], starts[i]);
-        i += 1;
+    for (i, start) in starts.iter().enumerate() {
+        ranges[i].earliest = stored_start(&ranges[i], *start);
     }
 }
 
 // The latest starts, put back into the ranges that they were taken from: one that was lowered moves back to a permitted value.
+#[tactic(auto, using(crate::proofs::StoredStarts::latest_none, crate::proofs::StoredStarts::latest_more))]
 pub fn store_latest(ranges: &mut [Range], starts: &[i32])
     requires { length starts.now ≤ length ranges.old }
     ensures { ranges.new ≡ with_latests ranges.old starts.now }
 {
-    let count = starts.len();
-    let mut i = 0;
-    while i < count {
-        ranges[i].latest = stored_latest(ranges[i], starts[i]);
-        i += 1;
+    for (i, start) in starts.iter().enumerate() {
+        ranges[i].latest = stored_latest(&ranges[i], *start);
     }
 }

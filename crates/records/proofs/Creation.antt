@@ -8,31 +8,31 @@ use native.Mathlib.Omega.{arith}
 use lib.Dec.{leb}
 use lib.IntN.{ℤ, pos, negsuc}
 use lib.Signed.{le_z, ◌≤ℤ◌}
-use lib.ListN.{length, get_or, length-map}
+use lib.ListN.{length, get_or, take, length-map}
 use mir.Syntax.{w32}
 use mir.Val.{SFits, to_z, of_z}
 use borrow.Author.Tests.{leb-true, le-leb}
 use Rattle.integers.specs.Limits.{TASKS, DURATIONS}
 use Rattle.integers.specs.FilledLists.{filled, no_tasks}
-use Rattle.integers.specs.Tests.{all_below, refusal, AllPassed}
+use Rattle.integers.specs.Tests.{test, all_below, refusal, AllPassed}
 use Rattle.integers.proofs.Bools.{clash}
 use Rattle.integers.proofs.FilledLists.{filled_at, filled_past, get_d_fresh}
 use Rattle.integers.proofs.Ints.{le_z_true, back}
 use Rattle.integers.proofs.Tests.{all_at, all_show, all_ext, accepts, accepted, first_refuses, first_holds}
 use Rattle.scheduling.specs.Scheduling.{total}
 use Rattle.scheduling.proofs.Sets.{total_ext}
-use Rattle.records.specs.declared.record.Creation.TheVariants.{Accepted, Refused}
-use Rattle.records.specs.Records.{count_within, sum_within, lasts_at, lengths_of, Lawful, duration_for, duration_at, positive_at, creation_tests, new_record, zero_record, number_of_creation, created, created_at}
+use Rattle.std.specs.Prelude.{Result, Ok, Err}
+use Rattle.std.specs.Result.{is_err}
+use Rattle.integers.specs.declared.refused.Refusal.{Refusal}
+use Rattle.integers.specs.Refused.{TASK_COUNT, DURATION, DURATION_SUM, number_of, number_in}
+use Rattle.integers.proofs.RefusalNumbers.{never_zero, reason_is}
+use Rattle.records.specs.Records.{count_within, sum_within, lasts_at, lengths_of, Lawful, duration_for, duration_at, positive_at, creation_tests, new_record, zero_record, creation_numbers, number_of_creation, created, created_at, Creates}
+use Rattle.records.specs.declared.record.Created.{Created}
+use Rattle.integers.specs.Reasons.{reason_of}
+use Rattle.records.proofs.Reasons.{none_refused}
+use Rattle.records.proofs.Slices.{front_lasts, front_total}
 use Rattle.records.proofs.Lawful.{count_is, few_said}
 use Rattle.records.proofs.TestsInOrder.{as_tests}
-
-pub negative : (z : ℤ) → le_z (pos 0) z ≡ false → 0 ≡ duration_for z
-negative (pos n) h = clash (le-leb 0 n (omega arith)) h
-negative (negsuc n) h = refl
-
--- one that a call reads from bits
-pub natural_word : (z : ℤ) {n : ℕ} → SFits w32 z → pos n ≡ to_z w32 (of_z w32 z) → n ≡ duration_for z
-natural_word z f e = ap duration_for (e ∙ back f)
 
 pub duration_word : (z : ℤ) {r : ℕ} → SFits w32 z → r ≡ duration_for (to_z w32 (of_z w32 z)) → r ≡ duration_for z
 duration_word z f e = e ∙ ap duration_for (back f)
@@ -53,27 +53,37 @@ pub same_sum : (ds : List ℤ) → length ds ≤ TASKS
 same_sum ds few = total_ext (λ k. get_or (filled (duration_at ds) (length ds) no_tasks) k 0) (duration_at ds) (length ds) (λ k q. filled_at (duration_at ds) (length ds) no_tasks 0 k q few)
 
 -- what the tests of a record's durations say of the caller's
-module _ (ds : List ℤ) (l : List ℕ) (e : l ≡ lengths_of ds) {r c : Bool} (n : c ≡ count_within (length ds)) (q : not c ≡ false) where
-  pub lasts_said : r ≡ all_below (lasts_at l) (length ds) → r ≡ all_below (positive_at ds) (length ds)
-  lasts_said h = h ∙ ap (λ (l : List ℕ). all_below (lasts_at l) (length ds)) e ∙ same_lasts ds (few_said n q)
+module _ (ds : List ℤ) (l : List ℕ) (e : l ≡ lengths_of ds) (long : length l ≡ TASKS) {c : Bool} (n : c ≡ count_within (length ds)) (q : not c ≡ false) {r : Bool} where
+  pub lasts_said : r ≡ all_below (lasts_at (take (length ds) l)) (length (take (length ds) l)) → r ≡ all_below (positive_at ds) (length ds)
+  lasts_said h = h ∙ front_lasts l (length ds) (omega (arith, few_said {n = length ds} n q, long)) ∙ ap (λ (l : List ℕ). all_below (lasts_at l) (length ds)) e ∙ same_lasts ds (few_said n q)
 
-  pub sum_said : r ≡ sum_within (λ k. get_or l k 0) (length ds) → r ≡ sum_within (duration_at ds) (length ds)
-  sum_said h = h ∙ ap (λ (l : List ℕ). sum_within (λ k. get_or l k 0) (length ds)) e ∙ ap (λ (s : ℕ). leb s DURATIONS) (same_sum ds (few_said n q))
+  pub sum_said : r ≡ sum_within (λ k. get_or (take (length ds) l) k 0) (length (take (length ds) l)) → r ≡ sum_within (duration_at ds) (length ds)
+  sum_said h = h
+      ∙ ap (λ (s : ℕ). leb s DURATIONS) (front_total l (length ds) (omega (arith, few_said {n = length ds} n q, long)) ∙ ap (λ (l : List ℕ). total (λ k. get_or l k 0) (length ds)) e ∙ same_sum ds (few_said n q))
 
 -- what creation answers, by its number
-pub created_new : (ds : List ℤ) → refusal (creation_tests ds) ≡ 0 → created ds ≡ record { «record» = new_record ds; answer = Accepted }
+pub created_new : (ds : List ℤ) → refusal (creation_tests ds) ≡ 0 → created ds ≡ record { «record» = new_record ds; answer = Ok tt }
 created_new ds h = ap (λ (n : ℕ). created_at n ds) h
 
-pub created_not : (ds : List ℤ) (n : ℕ) → refusal (creation_tests ds) ≡ n → (n ≡ 0 → ⊥) → created ds ≡ record { «record» = zero_record; answer = Refused n }
-created_not ds zero h q = absurd (q refl)
-created_not ds (suc n) h q = ap (λ (m : ℕ). created_at m ds) h
+created_some : (ds : List ℤ) (n : ℕ) → (n ≡ 0 → ⊥) → created_at n ds ≡ record { «record» = zero_record; answer = Err (reason_of n) }
+created_some ds zero h = absurd (h refl)
+created_some ds (suc n) h = refl
+
+pub created_not : (ds : List ℤ) (why : Refusal) → refusal (creation_tests ds) ≡ number_of why → created ds ≡ record { «record» = zero_record; answer = Err why }
+created_not ds why h =
+    ap (λ (n : ℕ). created_at n ds) h
+    ∙ created_some ds (number_of why) (never_zero why)
+    ∙ (λ i. record { «record» = zero_record; answer = Err (reason_is why i) })
 
 pub answer_number : (ds : List ℤ) → number_of_creation (created ds).answer ≡ refusal (creation_tests ds)
-answer_number ds = at (refusal (creation_tests ds))
+unfolding refusal
+answer_number ds = at (count_within (length ds)) (all_below (positive_at ds) (length ds)) (sum_within (duration_at ds) (length ds))
   where
-    at : (n : ℕ) → number_of_creation (created_at n ds).answer ≡ n
-    at zero = refl
-    at (suc n) = refl
+    at : (a b c : Bool) → let ts = test TASK_COUNT a ∷ test DURATION b ∷ test DURATION_SUM c ∷ [] in number_of_creation (created_at (refusal ts) ds).answer ≡ refusal ts
+    at false b c = refl
+    at true false c = refl
+    at true true false = refl
+    at true true true = refl
 
 -- A created record is lawful, so that no run refuses it with 20.
 pub created_lawful : (ds : List ℤ) → refusal (creation_tests ds) ≡ 0 → Lawful (new_record ds)
@@ -94,6 +104,43 @@ created_lawful ds h = made (accepted (creation_tests ds) refl h)
           stored = sym (same_sum ds few);
           unused = λ k q s. filled_past (duration_at ds) n no_tasks 0 k q ∙ get_d_fresh 0 TASKS k;
         }
+
+-- what equals the definition has its numbers
+numbered : (ds : List ℤ) (r : Created) → r ≡ created ds → Creates ds r
+numbered ds r e = record {
+  answer = ap (λ (x : Created). creation_numbers x.answer) e;
+  number = ap (λ (x : Created). number_of_creation x.answer) e ∙ answer_number ds;
+  made = ap (λ (x : Created). x.«record») e;
+}
+
+-- What is made, by the answer that the tests gave. Where they refuse, it is the record of zeros.
+pub refused_made : (ds : List ℤ) (answer : Result Unit Refusal) → number_in answer ≡ refusal (creation_tests ds) → is_err answer ≡ true
+    → Creates ds (record { «record» = zero_record; answer = answer })
+refused_made ds (Ok made) e h = clash h refl
+refused_made ds (Err why) e h = numbered ds _ (sym (created_not ds why (sym e)))
+
+nothing_beside : (answer : Result Unit Refusal) → is_err answer ≡ false → answer ≡ Ok tt
+nothing_beside (Ok made) h = refl
+nothing_beside (Err why) h = clash refl h
+
+-- Where they do not, the record is lawful, so that its sum is within the limit.
+module _ (ds : List ℤ) (answer : Result Unit Refusal) (e : number_in answer ≡ refusal (creation_tests ds)) (h : is_err answer ≡ false) where
+  lawful_made : Lawful (new_record ds)
+  lawful_made = created_lawful ds (sym e ∙ none_refused answer h)
+
+  pub few_made : length ds ≤ TASKS
+  few_made = lawful_made.few
+
+  module _ (lengths : List ℕ) (long : length lengths ≡ TASKS) (f : number_in answer ≡ 0 → lengths ≡ lengths_of ds) (stored : ℕ)
+      (t : stored ≡ total (λ k. get_or (take (length ds) lengths) k 0) (length (take (length ds) lengths))) where
+    stored_is : stored ≡ total (duration_at ds) (length ds)
+    stored_is = t ∙ front_total lengths (length ds) (omega (arith, few_made, long)) ∙ ap (λ (l : List ℕ). total (λ k. get_or l k 0) (length ds)) (f (none_refused answer h)) ∙ same_sum ds few_made
+
+    pub stored_small : stored ≤ DURATIONS
+    stored_small = omega (arith, lawful_made.sum, lawful_made.stored, stored_is)
+
+    pub accepted_made : Creates ds (record { «record» = record { count = length ds; durations = lengths; total = stored }; answer = answer })
+    accepted_made = numbered ds _ (cc (f (none_refused answer h), stored_is, nothing_beside answer h, created_new ds (sym e ∙ none_refused answer h)))
 
 -- The sole ground for each number: all before it hold, and its own does not.
 module _ (ds : List ℤ) where

@@ -1,24 +1,26 @@
 -- The numbers tell creation's answers apart.
-use mathlib.Core.Path.{◌≡◌, refl}
+use mathlib.Core.Path.{◌≡◌, refl, ap}
 use mathlib.Core.List.{List}
 use Prim.Native.Nat.{ℕ, zero, suc}
 use lib.IntN.{ℤ}
+use Rattle.std.specs.Prelude.{Result, Ok, Err}
 use Rattle.integers.specs.Answers.{Answer}
+use Rattle.integers.specs.declared.refused.Refusal.{Refusal}
 use Rattle.integers.proofs.Answers.{told_apart}
-use Rattle.records.specs.declared.record.Creation.{Creation}
-use Rattle.records.specs.declared.record.Creation.TheVariants.{Accepted, Refused}
 use Rattle.records.specs.declared.record.Created.{Created}
+use Rattle.integers.specs.Reasons.{reason_of}
 use Rattle.records.specs.Records.{creation_numbers, created, Creates}
+use Rattle.integers.proofs.RefusalNumbers.{reason_is}
 
-abbrev creation_of : ℕ → Answer → Creation
-creation_of zero a = Accepted
-creation_of (suc k) a = Refused a.number
+abbrev creation_of : ℕ → Answer → Result Unit Refusal
+creation_of zero a = Ok tt
+creation_of (suc k) a = Err (reason_of a.number)
 
-read : (x : Creation) → creation_of (creation_numbers x).kind (creation_numbers x) ≡ x
-read Accepted = refl
-read (Refused number) = refl
+read : (x : Result Unit Refusal) → creation_of (creation_numbers x).kind (creation_numbers x) ≡ x
+read (Ok tt) = refl
+read (Err why) = ap (λ (w : Refusal). Err w) (reason_is why)
 
-pub creations_apart : (x y : Creation) → creation_numbers x ≡ creation_numbers y → x ≡ y
+pub creations_apart : (x y : Result Unit Refusal) → creation_numbers x ≡ creation_numbers y → x ≡ y
 creations_apart = told_apart creation_numbers (λ a. creation_of a.kind a) read
 
 -- what creation answers is what is defined

@@ -6,12 +6,12 @@ use mathlib.Core.List.{List}
 use Prim.Native.Nat.{ℕ, ◌≤◌, ◌<◌}
 use native.Mathlib.Omega.{arith}
 use native.Mathlib.Decide.{dec_lt}
-use lib.Dec.{leb, ltb, eqb}
+use lib.Dec.{ltb, eqb}
 use lib.ListN.{get_or}
-use borrow.Author.Tests.{leb-true, le-leb, lt-leb, ltb-true, lt-ltb, eqb-true, eq-eqb}
-use Rattle.integers.specs.Limits.{TASKS, DURATIONS}
+use borrow.Author.Tests.{leb-true, ltb-true, lt-ltb, eqb-true, eq-eqb}
+use Rattle.integers.specs.Limits.{TASKS}
 use Rattle.integers.specs.Tests.{all_below}
-use Rattle.integers.proofs.Bools.{bool, or_true, or_right}
+use Rattle.integers.proofs.Bools.{or_true, or_right}
 use Rattle.integers.proofs.Tests.{all_at, all_show}
 use Rattle.records.specs.declared.record.DisjunctivePropagator.{DisjunctivePropagator}
 use Rattle.records.specs.Records.{count_within, lasts_at, unused_at, unused_is_zero, lawful_record, Lawful}
@@ -37,18 +37,6 @@ module _ (durations : List ℕ) (n k : ℕ) where
   pub unused_read : n ≤ k → unused_at durations n k ≡ true → get_or durations k 0 ≡ 0
   unfolding unused_at
   unused_read q h = elim (or_true (ltb k n) (eqb (get_or durations k 0) 0) h) [ inl y ↦ absurd (omega (arith, ltb-true k n y)) | inr y ↦ eqb-true (get_or durations k 0) 0 y ]
-
-  -- one that holds another number
-  pub unused_not : n ≤ k → (get_or durations k 0 ≡ 0 → ⊥) → unused_at durations n k ≡ false
-  unused_not q h = elim (bool (unused_at durations n k)) [ inl y ↦ absurd (h (unused_read q y)) | inr y ↦ y ]
-
--- a stored total that is the sum is tested in its place
-module _ (stored sum : ℕ) {r : Bool} (e : r ≡ eqb stored sum) (h : not r ≡ false) where
-  pub stored_over : DURATIONS < stored → leb sum DURATIONS ≡ false
-  stored_over q = lt-leb sum DURATIONS (omega (arith, eqb-true stored sum (said_yes e h)))
-
-  pub stored_fits : stored ≤ DURATIONS → leb sum DURATIONS ≡ true
-  stored_fits q = le-leb sum DURATIONS (omega (arith, eqb-true stored sum (said_yes e h)))
 
 -- what the tests of all places say of each
 module _ (ds : List ℕ) (n : ℕ) where

@@ -1,3 +1,5 @@
+pub mod Reasons
+pub mod Slices
 pub mod Lawful
 pub mod UnusedPlaces
 pub mod Creation

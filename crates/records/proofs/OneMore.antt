@@ -18,10 +18,6 @@ pub one_more : (pass : ℕ → Bool) (n : ℕ) {a b r : Bool} → a ≡ all_belo
 unfolding all_below
 one_more pass n p q z = z ∙ rw (p, q, add-one n) refl
 
--- the loop's end
-pub all_tested : (pass : ℕ → Bool) (i n : ℕ) {a : Bool} → a ≡ all_below pass i → i ≤ n → n ≤ i → a ≡ all_below pass n
-all_tested pass i n e p q = let z : i ≡ n = omega arith in e ∙ ap (all_below pass) z
-
 -- the same for a loop that sums
 module _ (f : ℕ → ℕ) (i : ℕ) {s : ℕ} (e : s ≡ total f i) where
   pub total_step : {x : ℕ} → x ≡ f i → s + x ≡ total f (i + 1)

@@ -8,7 +8,6 @@ use native.Mathlib.Omega.{arith}
 use native.Mathlib.Nat.{mul-le-mul_left}
 use lib.Dec.{leb, eqb}
 use lib.IntN.{ℤ, pos}
-use lib.Signed.{le_z, ◌≤ℤ◌}
 use lib.ListN.{length, get_or}
 use borrow.Author.Tests.{not-true, not-false}
 use Rattle.integers.specs.Limits.{TASKS}
@@ -17,16 +16,12 @@ use Rattle.integers.proofs.Bools.{bool}
 use Rattle.integers.proofs.Ints.{le_z_true}
 use Rattle.integers.proofs.Tests.{all_at, all_show, other, unused, accepts, accepted, refuses, broken, first_refuses, first_holds, behind, more_accepted}
 use Rattle.records.specs.declared.record.DisjunctivePropagator.{DisjunctivePropagator}
-use Rattle.records.specs.Records.{lawful_record, Lawful, record_of}
+use Rattle.records.specs.Records.{lawful_record, Lawful}
 use Rattle.records.specs.Refusals.{start_fits_at, range_fits_at, range_tests, range_number, input_tests, input_number, run_number, StartFits, CountsFit, StartsFit, RangesFit, WordsFit, AcceptedInput}
 use Rattle.records.specs.Refusals.{AcceptedRun}
 use Rattle.records.proofs.LastTests.{tests_first, last_refuses, last_passes}
 use Rattle.records.proofs.Lawful.{lawful_is}
 use Rattle.records.proofs.TestsInOrder.{as_facts, as_tests}
-
--- a number from low to high, tested and as a fact
-pub within_is : (low high z : ℤ) → le_z low z && le_z z high ≡ true ↔ ((low ≤ℤ z) × (z ≤ℤ high))
-within_is low high z = (λ h. search as_facts, λ f. search as_tests)
 
 starts_in : (xs : List ℤ) → all_below (start_fits_at xs) (length xs) ≡ true ↔ ((k : ℕ) → k < length xs → StartFits (get_or xs k (pos 0)))
 starts_in xs = (facts, λ f. all_show (start_fits_at xs) (length xs) (λ k q. (let g = f k q in search as_tests)))
@@ -171,6 +166,6 @@ module _ (r : DisjunctivePropagator) (es ls : List ℤ) (bars : Bool) {m : ℕ} 
     words_enough z q = last_passes (input_tests r es ls bars) e refl z 9 _ q
 
 -- where those are passed there are few tasks, whose square is small
-pub few_tasks : (n : ℕ) (ds : List ℕ) (stored : ℕ) (es ls : List ℤ) (bars : Bool) {m : ℕ}
-    → m ≡ input_number (record_of n ds stored) es ls bars → m ≡ 0 → (n ≤ TASKS) × (n * n ≤ n * TASKS)
-few_tasks n ds stored es ls bars e z = let few = ((accepted_input (record_of n ds stored) es ls bars).0 (sym e ∙ z)).0.lawful.few in (few, mul-le-mul_left n few)
+pub few_tasks : (r : DisjunctivePropagator) (es ls : List ℤ) (bars : Bool) {m : ℕ}
+    → m ≡ input_number r es ls bars → m ≡ 0 → (r.count ≤ TASKS) × (r.count * r.count ≤ r.count * TASKS)
+few_tasks r es ls bars e z = let few = ((accepted_input r es ls bars).0 (sym e ∙ z)).0.lawful.few in (few, mul-le-mul_left r.count few)

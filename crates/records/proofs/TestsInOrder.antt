@@ -38,9 +38,6 @@ ends = sym refusal_none
 pub one_fails : (p : Bool) → p ≡ false → false ≡ p
 one_fails p h = sym h
 
-pub one_holds : (p q : Bool) {r : Bool} → p ≡ true → r ≡ q → r ≡ p && q
-one_holds p q h e = e ∙ sym (and_is p q h)
-
 -- both hold: each does
 pub both_first : (a b : Bool) → a && b ≡ true → a ≡ true
 both_first a b h = (and_true a b h).0

@@ -1,7 +1,9 @@
 -- The propagator's record: which are lawful, and what creation gives.
-use Rattle.std.specs.Prelude.{◌≡◌, Bool, ◌&&◌, ◌||◌, List, [], ◌∷◌, ℕ, zero, suc, ◌≤◌, ◌<◌, leb, ltb, eqb, ℤ, pos, negsuc, length, get_or, take}
+use Rattle.std.specs.Prelude.{◌≡◌, Bool, ◌&&◌, ◌||◌, Result, Ok, Err, List, [], ◌∷◌, ℕ, zero, suc, ◌≤◌, ◌<◌, leb, ltb, eqb, ℤ, pos, negsuc, length, get_or, take}
 use Rattle.std.specs.Int.Signed.{le_z}
 use Rattle.integers.specs.Refused as refused
+use Rattle.integers.specs.Refused.{number_of}
+use Rattle.integers.specs.declared.refused.Refusal.{Refusal}
 use Rattle.integers.specs.Limits.{TASKS, DURATIONS}
 use Rattle.integers.specs.FilledLists.{filled, no_tasks}
 use Rattle.integers.specs.Moments.{zero_at}
@@ -11,8 +13,7 @@ use Rattle.scheduling.specs.Scheduling.{whole, natural, Tasks, tasks_of, total}
 use Rattle.scheduling.specs.Moments.{moments}
 use Rattle.records.specs.declared.record.DisjunctivePropagator.{DisjunctivePropagator}
 use Rattle.records.specs.declared.record.Created.{Created}
-use Rattle.records.specs.declared.record.Creation.{Creation}
-use Rattle.records.specs.declared.record.Creation.TheVariants.{Accepted, Refused}
+use Rattle.integers.specs.Reasons.{reason_of}
 
 -- the number of tasks is from 1 to TASKS
 abbrev pub count_within : ℕ → Bool
@@ -27,6 +28,10 @@ sum_within duration n = leb (total duration n) DURATIONS
 -- the duration of a record's task k is 1 or more
 abbrev pub lasts_at : List ℕ → ℕ → Bool
 lasts_at durations k = leb 1 (get_or durations k 0)
+
+-- place k holds 0
+abbrev pub holds_zero : List ℕ → ℕ → Bool
+holds_zero places k = eqb (get_or places k 0) 0
 
 -- place k is a task's, or holds 0
 unfoldable pub unused_at : List ℕ → ℕ → ℕ → Bool
@@ -96,11 +101,11 @@ creation_tests ds =
     ∷ []
 
 -- the answer by the papers' numbers, and the number that refused creation; 0 where the record is made
-abbrev pub creation_numbers : Creation → Answer
-creation_numbers Accepted = answered 0 []
-creation_numbers (Refused number) = refused_by number
+abbrev pub creation_numbers : Result Unit Refusal → Answer
+creation_numbers (Ok made) = answered 0 []
+creation_numbers (Err why) = refused_by (number_of why)
 
-abbrev pub number_of_creation : Creation → ℕ
+abbrev pub number_of_creation : Result Unit Refusal → ℕ
 number_of_creation answer = (creation_numbers answer).number
 
 -- the durations of a record, from a caller's
@@ -118,10 +123,10 @@ new_record ds = record {
 abbrev pub zero_record : DisjunctivePropagator
 zero_record = record { count = 0; durations = no_tasks; total = 0 }
 
--- the new record, or the record of zeros with the number
+-- the new record, or the record of zeros with the reason that has the number
 abbrev pub created_at : ℕ → List ℤ → Created
-created_at zero ds = record { «record» = new_record ds; answer = Accepted }
-created_at (suc n) ds = record { «record» = zero_record; answer = Refused (suc n) }
+created_at zero ds = record { «record» = new_record ds; answer = Ok tt }
+created_at (suc n) ds = record { «record» = zero_record; answer = Err (reason_of (suc n)) }
 
 abbrev pub created : List ℤ → Created
 created ds = created_at (refusal (creation_tests ds)) ds

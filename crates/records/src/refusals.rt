@@ -1,22 +1,19 @@
-// What refuses a call for its record and its ranges: the number of the first test that is broken, each tried over the whole input.
+// Why a call is refused for its record and its ranges: the first test that is broken, each tried over the whole input.
 ghost use Rattle.std.specs.Prelude.{◌≡◌, ◌&&◌, length};
 ghost use Rattle.std.specs.Int.Signed.{le_z};
+ghost use Rattle.integers.specs.Refused.{number_in};
 ghost use Rattle.integers.specs.Tests.{all_below};
-ghost use Rattle.records.specs.Records.{record_of};
 ghost use Rattle.records.specs.Refusals.{within_at, start_fits_at, range_fits_at, range_number, input_number, run_number};
 
-use crate::record::{both, lawful};
-use integers::limits::TASKS;
-use integers::refused;
+use crate::record::{DisjunctivePropagator, lawful};
+use integers::limits::START;
+use integers::refused::Refusal;
 
-// Whether x is from low to high.
+// Whether x is from low to high, with no branch.
 pub fn within(x: i32, low: i32, high: i32) -> bool
     ensures { result ≡ le_z low x && le_z x high }
 {
-    both(
-        integers::numbers::at_most(low, x),
-        integers::numbers::at_most(x, high),
-    )
+    (low <= x) & (x <= high)
 }
 
 // Whether every number is from low to high. All are read, with no branch at any, so that several are compared at once.
@@ -24,10 +21,8 @@ pub fn all_within(xs: &[i32], low: i32, high: i32) -> bool
     ensures { result ≡ all_below (within_at low high xs.now) (length xs.now) }
 {
     let mut all = true;
-    let mut i = 0;
-    while i < xs.len() {
-        all = both(all, within(xs[i], low, high));
-        i += 1;
+    for x in xs {
+        all = all & within(*x, low, high);
     }
     all
 }
@@ -36,7 +31,7 @@ pub fn all_within(xs: &[i32], low: i32, high: i32) -> bool
 fn starts_fit(xs: &[i32]) -> bool
     ensures { result ≡ all_below (start_fits_at xs.now) (length xs.now) }
 {
-    all_within(xs, -integers::limits::START, integers::limits::START)
+    all_within(xs, -START, START)
 }
 
 // Whether no earliest start is above its latest.
@@ -45,86 +40,66 @@ pub fn ranges_fit(earliest: &[i32], latest: &[i32]) -> bool
     ensures { result ≡ all_below (range_fits_at earliest.now latest.now) (length earliest.now) }
 {
     let mut all = true;
-    let mut i = 0;
-    while i < earliest.len() {
-        all = both(all, integers::numbers::at_most(earliest[i], latest[i]));
-        i += 1;
+    for (i, e) in earliest.iter().enumerate() {
+        all = all & (*e <= latest[i]);
     }
     all
 }
 
-// The number that refuses any call for its record and its ranges, or 0: 20, 10, 3, 4.
+// Why any call is refused for its record and its ranges, tried in this order: the record, the count of ranges, their starts, their order.
 pub fn range_refusal(
-    n: usize,
-    durations: &[u32; TASKS],
-    total: u32,
+    record: &DisjunctivePropagator,
     earliest: &[i32],
     latest: &[i32],
-) -> u32
-    ensures { result ≡ range_number (record_of n durations.now total) earliest.now latest.now }
+) -> Result<(), Refusal>
+    ensures { number_in result ≡ range_number «record».now earliest.now latest.now }
 {
-    if !lawful(n, durations, total) {
-        return refused::RECORD;
+    if !lawful(record) {
+        return Err(Refusal::Record);
     }
-    if earliest.len() != n {
-        return refused::RANGE_COUNT;
+    if earliest.len() != record.count || latest.len() != record.count {
+        return Err(Refusal::RangeCount);
     }
-    if latest.len() != n {
-        return refused::RANGE_COUNT;
-    }
-    if !starts_fit(earliest) {
-        return refused::START;
-    }
-    if !starts_fit(latest) {
-        return refused::START;
+    if !starts_fit(earliest) || !starts_fit(latest) {
+        return Err(Refusal::Start);
     }
     if !ranges_fit(earliest, latest) {
-        return refused::CROSSED;
+        return Err(Refusal::Crossed);
     }
-    0
+    Ok(())
 }
 
-// The number that refuses a call on ranges for its record, its ranges and their bars, or 0: 20, 10, 3, 4, 13.
+// Why a call on ranges is refused for its record, its ranges and then their bars.
 pub fn input_refusal(
-    n: usize,
-    durations: &[u32; TASKS],
-    total: u32,
+    record: &DisjunctivePropagator,
     earliest: &[i32],
     latest: &[i32],
     bars_fit: bool,
-) -> u32
-    ensures { result ≡ input_number (record_of n durations.now total) earliest.now latest.now bars_fit }
+) -> Result<(), Refusal>
+    ensures { number_in result ≡ input_number «record».now earliest.now latest.now bars_fit }
 {
-    let number = range_refusal(n, durations, total, earliest, latest);
-    if number == 0 && !bars_fit {
-        return refused::BARS;
+    range_refusal(record, earliest, latest)?;
+    if !bars_fit {
+        return Err(Refusal::Bars);
     }
-    number
+    Ok(())
 }
 
-// The number that refuses a run, or 0: 20, 10, 3, 4, 13, 9.
+// Why a run is refused: for its record, its ranges and their bars, and then for the room of its posts and reasons.
 pub fn run_refusal(
-    n: usize,
-    durations: &[u32; TASKS],
-    total: u32,
+    record: &DisjunctivePropagator,
     earliest: &[i32],
     latest: &[i32],
     bars_fit: bool,
     post_words: usize,
     atom_words: usize,
-) -> u32
-    ensures { result ≡ run_number (record_of n durations.now total) earliest.now
-        latest.now bars_fit post_words atom_words }
+) -> Result<(), Refusal>
+    ensures { number_in result ≡ run_number «record».now earliest.now latest.now bars_fit post_words atom_words }
 {
-    let number = input_refusal(n, durations, total, earliest, latest, bars_fit);
-    if number != 0 {
-        return number;
+    input_refusal(record, earliest, latest, bars_fit)?;
+    let n = record.count;
+    if post_words < 4 * n || atom_words < 6 * (n * n) {
+        return Err(Refusal::Room);
     }
-    if post_words < 4 * n {
-        return refused::ROOM;
-    }
-    if atom_words < 6 * (n * n) {
-        return refused::ROOM;
-    }
-    0
+    Ok(())
 }

@@ -27,7 +27,7 @@ countable : (o : Outcome) (n : ℕ) → n < 2 ^ 64 → ((outcome_numbers o).kind
 countable (outcome.Done posts) n room inside = omega arith
 countable (outcome.Overload posts first count) n room inside = omega (arith, inside refl)
 countable (outcome.Emptied posts) n room inside = omega arith
-countable (outcome.Refused number) n room inside = omega arith
+countable (outcome.Refused why) n room inside = omega arith
 
 module _ (before : DisjunctivePropagator) (ranges : List Range) (posts atoms : List ℤ) (ranges' : List Range) (posts' atoms' : List ℤ) where
   -- The run --------------------------------------------------------------------------------------------------------------------

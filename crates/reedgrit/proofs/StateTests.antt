@@ -9,6 +9,9 @@ use lib.Dec.{leb}
 use lib.IntN.{ℤ}
 use lib.ListN.{length}
 use borrow.Author.Tests.{leb-true, leb-false, le-leb, lt-leb}
+use Rattle.integers.specs.declared.refused.Refusal.{Refusal}
+use Rattle.integers.specs.declared.refused.Refusal.TheVariants.{Atoms, Premises}
+use Rattle.integers.specs.Refused.{number_of}
 use Rattle.integers.specs.Answers.{Answer, refused_by}
 use Rattle.integers.specs.Limits.{PREMISES}
 use Rattle.integers.specs.Tests.{Test, test, refusal}
@@ -74,18 +77,19 @@ module _ (premises : List ℤ) (own : Bool) (query : VariableState → Answer) w
 
   -- they are accepted: the tests are those of the premises
   module _ (e : own ≡ true) where
-    is_refused : (m : ℕ) → application_numbers (prepared premises []).answer ≡ refused_by (suc m) → refusal (state_tests premises own) ≡ suc m
+    is_refused : (m : ℕ) (why : Refusal) → number_of why ≡ suc m → application_numbers (prepared premises []).answer ≡ refused_by (suc m) → refusal (state_tests premises own) ≡ suc m
         → queried_at (prepared premises []).answer (state_answer (query (prepared premises []).state)) ≡ queried premises own query
-    is_refused m p q =
-        ap (λ (w : Application). queried_at w (state_answer (query (prepared premises []).state))) (applications_apart (prepared premises []).answer (Refused (suc m)) p) ∙ sym (after (suc m) q)
+    is_refused m why e p q =
+        ap (λ (w : Application). queried_at w (state_answer (query (prepared premises []).state))) (applications_apart (prepared premises []).answer (Refused why) (p ∙ ap refused_by (sym e)))
+        ∙ ap (λ (k : ℕ). state_answer (refused_by k)) e ∙ sym (after (suc m) q)
 
     fits : queried_at (prepared premises []).answer (state_answer (query (prepared premises []).state)) ≡ queried premises own query
     fits = elim (bool (leb (length premises) (3 * PREMISES + 2))) [
       | inl y ↦ (let h = leb-true (length premises) (3 * PREMISES + 2) y in elim (bool (right_words premises)) [
         | inl z ↦ sym (after 0 (passed premises own h (and_yes (right_words premises) own z e)))
-        | inr z ↦ is_refused 5 ((prepared_6 premises []).1 (h, λ f. clash (right_lists_are premises [] ((lists_are premises []).1 f)).0 z)) (malformed premises own h (rw z))
+        | inr z ↦ is_refused 5 Atoms refl ((prepared_6 premises []).1 (h, λ f. clash (right_lists_are premises [] ((lists_are premises []).1 f)).0 z)) (malformed premises own h (rw z))
       ])
-      | inr y ↦ (let h = leb-false (length premises) (3 * PREMISES + 2) y in is_refused 6 ((prepared_7 premises []).1 (omega arith)) (too_many premises own (omega arith)))
+      | inr y ↦ (let h = leb-false (length premises) (3 * PREMISES + 2) y in is_refused 6 Premises refl ((prepared_7 premises []).1 (omega arith)) (too_many premises own (omega arith)))
     ]
 
     pub fit : (r : Applied) → r ≡ prepared premises [] → queried_at r.answer (state_answer (query r.state)) ≡ queried premises own query

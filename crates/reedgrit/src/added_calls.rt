@@ -9,8 +9,8 @@ use crate::checks::checked_mirrored;
 use answers::added_calls::{
     BusiestAnswer, ChangeAnswer, ChargesAnswer, ConflictAnswer, CountAnswer, MirroredAnswer,
     StartAnswer, bound_above_numbers, busiest_numbers, change_numbers, charges_numbers,
-    conflict_numbers, conflict_page_numbers, mirrored_numbers, overload_numbers, page_numbers,
-    precedences_numbers, reason_numbers, start_numbers,
+    conflict_numbers, count_numbers, found_numbers, mirrored_numbers, precedences_numbers,
+    start_numbers,
 };
 use answers::source_calls::CheckAnswer;
 use disjunctive::open_calls::by_precedence::{precedence_bound, precedence_reason, precedences};
@@ -63,7 +63,7 @@ pub extern "C" fn reedgrit_overload_test(
 ) -> CountAnswer
     ensures { OverloadNumbers propagator.now ranges.now result }
 {
-    overload_numbers(overload_test(propagator, ranges))
+    found_numbers(overload_test(propagator, ranges))
 }
 
 // Why the tasks cannot fit.
@@ -86,7 +86,7 @@ pub extern "C" fn reedgrit_conflict_page(
 ) -> CountAnswer
     ensures { ConflictPageNumbers propagator.now ranges.now out.old result out.new }
 {
-    conflict_page_numbers(conflict_page(propagator, ranges, out))
+    found_numbers(conflict_page(propagator, ranges, out))
 }
 
 // A task more.
@@ -120,7 +120,7 @@ pub extern "C" fn reedgrit_page(
 ) -> CountAnswer
     ensures { PageNumbers propagator.now ranges.now out.old result out.new }
 {
-    page_numbers(page(propagator, ranges, out))
+    count_numbers(page(propagator, ranges, out))
 }
 
 // The charges of a fixed schedule.
@@ -193,5 +193,5 @@ pub extern "C" fn reedgrit_precedence_reason(
 ) -> CountAnswer
     ensures { ReasonNumbers propagator.now ranges.now task reason.old result reason.new }
 {
-    reason_numbers(precedence_reason(propagator, ranges, task, reason))
+    count_numbers(precedence_reason(propagator, ranges, task, reason))
 }

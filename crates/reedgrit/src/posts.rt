@@ -4,19 +4,20 @@ ghost use Rattle.post_words.specs.Posts.{first_atom_of, count_of_atoms};
 ghost use Rattle.reedgrit.specs.Posts.{post_read_back, post_numbers};
 
 use answers::source_calls::PostAnswer;
-use post_words::{atom_count, bound_word, first_atom, post_number, task_word, words_of};
+use post_words::{post_number, read_post, words_of};
 
 // The words of a post that the reader accepts.
-fn read_post(posts: &[i32], index: usize) -> PostAnswer
+fn accepted_post(posts: &[i32], index: usize) -> PostAnswer
     requires { (4 * index + 4 ≤ length posts.now) × (pos 0 ≤ℤ first_atom_of posts.now index) × (pos 0 ≤ℤ count_of_atoms posts.now index) }
     ensures { result ≡ post_read_back posts.now index }
 {
-    let first = first_atom(posts, index) as usize;
-    let count = atom_count(posts, index) as usize;
+    let post = read_post(posts, index);
+    let first = post.first as usize;
+    let count = post.count as usize;
     PostAnswer {
         number: 0,
-        task: task_word(posts, index),
-        bound: bound_word(posts, index),
+        task: post.task,
+        bound: post.bound,
         first: words_of(first),
         count: words_of(count),
     }
@@ -36,5 +37,5 @@ pub fn post(posts: &[i32], atoms: &[i32], post_count: usize, index: usize) -> Po
             count: 0,
         };
     }
-    read_post(posts, index)
+    accepted_post(posts, index)
 }

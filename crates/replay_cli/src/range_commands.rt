@@ -1,37 +1,72 @@
 // A command on the record and on ranges: those of a fixed schedule, or such as may have barred starts.
-use crate::range_lists::ranges_of;
+use crate::range_lists::{barred_ranges, ranges_of};
 use crate::run_commands::{answer_barred, answer_bound};
 use crate::schedule_commands::answer_fixed;
 use disjunctive::DisjunctivePropagator;
+use disjunctive::by_value::Ranges;
 use replay_lines::lines::say_error;
-use replay_lines::parts::{list, span};
-use replay_lines::words::{BUSIEST, CONFLICT_PAGE, PRECEDE_BOUND};
+use replay_lines::parts::{Lists, place_of};
+use replay_lines::words::{Barred, Fixed, OnRanges, OneBound};
 use std::io;
 use std::io::Write;
 
-// The answer to a command on ranges, with n lists.
-pub fn answer_ranges<W: Write>(
+// The answer to a command on ranges.
+pub fn answer_on_ranges<W: Write>(
+    output: &mut W,
+    record: Option<DisjunctivePropagator>,
+    question: OnRanges,
+    lists: &Lists,
+) -> io::Result<()> {
+    let Some(record) = record else {
+        return say_error(output);
+    };
+    match question {
+        OnRanges::Fixed(question) => on_fixed(output, record, question, lists),
+        OnRanges::Barred(question) => on_barred(output, record, question, lists),
+        OnRanges::OneBound(question) => on_bound(output, record, question, lists),
+    }
+}
+
+// A fixed schedule, and at most one list after it: what more is asked.
+fn on_fixed<W: Write>(
     output: &mut W,
     record: DisjunctivePropagator,
-    command: usize,
-    words: &[i32],
-    ends: &[usize],
-    n: usize,
+    question: Fixed,
+    lists: &Lists,
 ) -> io::Result<()> {
-    if command > PRECEDE_BOUND {
+    match ranges_of(lists.list(0)) {
+        Some(ranges) if lists.count() <= 2 => {
+            answer_fixed(output, record, question, ranges, lists.list(1))
+        }
+        _ => say_error(output),
+    }
+}
+
+// Ranges, and lists of barred starts after them.
+fn on_barred<W: Write>(
+    output: &mut W,
+    record: DisjunctivePropagator,
+    question: Barred,
+    lists: &Lists,
+) -> io::Result<()> {
+    match barred_ranges(lists.list(0), lists) {
+        Some(ranges) => answer_barred(output, record, question, ranges),
+        None => say_error(output),
+    }
+}
+
+// The same with the task that is asked about before the ranges.
+fn on_bound<W: Write>(
+    output: &mut W,
+    record: DisjunctivePropagator,
+    question: OneBound,
+    lists: &Lists,
+) -> io::Result<()> {
+    let [task, pairs @ ..] = lists.list(0) else {
         return say_error(output);
+    };
+    match barred_ranges(pairs, lists) {
+        Some(ranges) => answer_bound(output, record, question, ranges, place_of(*task)),
+        None => say_error(output),
     }
-    let a = list(words, ends, 0);
-    if command > CONFLICT_PAGE {
-        let ranges = ranges_of(span(a, 1, a.len())).with_lists(words, ends, n);
-        return answer_bound(output, record, command, ranges, a);
-    }
-    let ranges = ranges_of(a);
-    if command > BUSIEST {
-        return answer_barred(output, record, command, ranges.with_lists(words, ends, n));
-    }
-    if n > 2 {
-        return say_error(output);
-    }
-    answer_fixed(output, record, command, ranges, list(words, ends, 1))
 }

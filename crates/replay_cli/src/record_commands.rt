@@ -1,76 +1,61 @@
 // The commands that change the record: `create`, `add` and `remove`.
-use disjunctive::{Change, DisjunctivePropagator, create};
-use records::record::Creation;
-use replay_lines::lines::{ADDED, CREATED, REMOVED, say_counted, say_error, say_line, say_refused};
+use disjunctive::{DisjunctivePropagator, create};
+use replay_lines::lines::{say_error, say_refused};
 use replay_lines::parts::place_of;
-use replay_lines::words::{CREATE, REMOVE};
 use std::io;
 use std::io::Write;
 use task_changes::changes::{Changed, add, remove};
 
-// The record after one of the three.
-pub fn answer_change<W: Write>(
-    output: &mut W,
-    record: DisjunctivePropagator,
-    command: usize,
-    words: &[i32],
-) -> io::Result<DisjunctivePropagator> {
-    if command == CREATE {
-        return answer_create(output, words);
-    }
-    if command == REMOVE {
-        return answer_remove(output, record, words);
-    }
-    answer_add(output, record, words)
-}
-
 // `create`: a record of the durations.
-fn answer_create<W: Write>(output: &mut W, durations: &[i32]) -> io::Result<DisjunctivePropagator> {
+pub fn answer_create<W: Write>(
+    output: &mut W,
+    durations: &[i32],
+) -> io::Result<DisjunctivePropagator> {
     let made = create(durations);
     let answer = made.answer;
     match answer {
-        Creation::Accepted => say_counted(output, CREATED, durations.len()),
-        Creation::Refused(number) => say_refused(output, number),
+        Ok(()) => writeln!(output, "created {}", durations.len()),
+        Err(why) => say_refused(output, why),
     }?;
     Ok(made.record)
 }
 
 // `add`: the record with one more task, of the duration.
-fn answer_add<W: Write>(
+pub fn answer_add<W: Write>(
     output: &mut W,
-    record: DisjunctivePropagator,
+    record: Option<DisjunctivePropagator>,
     words: &[i32],
-) -> io::Result<DisjunctivePropagator> {
-    if words.len() != 1 {
+) -> io::Result<Option<DisjunctivePropagator>> {
+    let (Some(before), [duration]) = (record, words) else {
         say_error(output)?;
         return Ok(record);
-    }
-    say_change(output, add(record, words[0]), ADDED)
+    };
+    say_change(output, add(before, *duration), "added")
 }
 
 // `remove`: the record without the task.
-fn answer_remove<W: Write>(
+pub fn answer_remove<W: Write>(
     output: &mut W,
-    record: DisjunctivePropagator,
+    record: Option<DisjunctivePropagator>,
     words: &[i32],
-) -> io::Result<DisjunctivePropagator> {
-    if words.len() != 1 {
+) -> io::Result<Option<DisjunctivePropagator>> {
+    let (Some(before), [task]) = (record, words) else {
         say_error(output)?;
         return Ok(record);
-    }
-    say_change(output, remove(record, place_of(words[0])), REMOVED)
+    };
+    say_change(output, remove(before, place_of(*task)), "removed")
 }
 
 // The line of a change, and the record after it.
 fn say_change<W: Write>(
     output: &mut W,
     changed: Changed,
-    word: usize,
-) -> io::Result<DisjunctivePropagator> {
+    word: &str,
+) -> io::Result<Option<DisjunctivePropagator>> {
     let answer = changed.answer;
     match answer {
-        Change::Made => say_line(output, word),
-        Change::Refused(number) => say_refused(output, number),
+        Ok(()) => writeln!(output, "{word}"),
+        Err(why) => say_refused(output, why),
     }?;
-    Ok(changed.record)
+    Ok(Some(changed.record))
 }

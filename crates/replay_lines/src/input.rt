@@ -1,43 +1,24 @@
 // An input, read line by line. A failed read counts as its end.
 use std::io::Read;
 
-// A byte of the input, or the end of the input, where `more` is false.
-#[derive(Clone, Copy)]
-struct Byte {
-    byte: u8,
-    more: bool,
-}
-
-// How much of a line was read, and whether the input goes on.
-#[derive(Clone, Copy)]
-pub struct Line {
-    pub held: usize,
-    pub more: bool,
-}
-
-// The next byte of the input.
-fn next_byte<R: Read>(input: &mut R) -> Byte {
+// The next byte of the input, or none at its end.
+fn next_byte<R: Read>(input: &mut R) -> Option<u8> {
     let mut one = [0u8; 1];
-    let more = match input.read(&mut one) {
-        Ok(n) => n > 0,
-        Err(_) => false,
-    };
-    let byte = one[0];
-    Byte { byte, more }
+    match input.read(&mut one) {
+        Ok(n) if n > 0 => Some(one[0]),
+        _ => None,
+    }
 }
 
-// The next line, without its line feed, put into `line`. The last may have none.
-pub fn next_line<R: Read>(input: &mut R, line: &mut [u8]) -> Line {
-    let mut held = 0;
-    while held < line.len() {
-        let next = next_byte(input);
-        let byte = next.byte;
-        let more = next.more;
-        if !more || byte == b'\n' {
-            return Line { held, more };
+// The next line, without its line feed, or none at the input's end. The last may have no line feed. What does not fit `buffer` is the next line.
+pub fn next_line<'a, R: Read>(input: &mut R, buffer: &'a mut [u8]) -> Option<&'a [u8]> {
+    for i in 0..buffer.len() {
+        match next_byte(input) {
+            Some(b'\n') => return Some(&buffer[..i]),
+            Some(byte) => buffer[i] = byte,
+            None if i == 0 => return None,
+            None => return Some(&buffer[..i]),
         }
-        line[held] = byte;
-        held += 1;
     }
-    Line { held, more: true }
+    Some(buffer)
 }

@@ -1,192 +1,106 @@
-// A line, taken apart: parts of it, words, and lists of numbers.
-use checking::atomic_constraint::variable_is_accepted;
-use integers::limits::VARIABLES;
-use integers::numbers::nat_of;
+// A line, taken apart: its first word, and lists of numbers.
 use text::reading::{Reading, Word, is_space};
-use text::words::{Run, run_end};
 
 // Numbers of a line that are kept. A list of premises this long is refused for its length.
-pub const WORDS: usize = 4096;
+const NUMBERS: usize = 4096;
 
 // Lists of a line, parted by semicolons.
-pub const LISTS: usize = 64;
+const LISTS: usize = 64;
 
-// The numbers and the lists read so far, and the word that is being read.
+// A line without the white space that it begins with.
+fn trimmed(line: &[u8]) -> &[u8] {
+    match line.iter().position(|byte| !is_space(*byte)) {
+        Some(from) => &line[from..],
+        None => &[],
+    }
+}
+
+// The first word of a line, and what stands after it.
+pub fn first_word(line: &[u8]) -> (&[u8], &[u8]) {
+    let line = trimmed(line);
+    match line.iter().position(|byte| is_space(*byte)) {
+        Some(end) => line.split_at(end),
+        None => (line, &[]),
+    }
+}
+
+// The number that a word is, or none.
+fn number_of(word: &[u8]) -> Option<i32> {
+    let mut read = Word::Empty;
+    for byte in word {
+        read = read.next(*byte);
+    }
+    match read.reading() {
+        Reading::Number(x) => Some(x),
+        _ => None,
+    }
+}
+
+// The lists of numbers of a line. Nothing allocates, so the numbers of all lists stand in one array: those of a list end where the next begins.
 #[derive(Clone, Copy)]
-struct Scan {
-    valid: bool,
+pub struct Lists {
+    numbers: [i32; NUMBERS],
+    kept: usize,
+    ends: [usize; LISTS],
     count: usize,
-    lists: usize,
-    word: Word,
 }
 
-// The bytes from `from` to `to`, or none where the line has no such part.
-pub fn bytes_of(line: &[u8], from: usize, to: usize) -> &[u8] {
-    if from > to {
-        return &line[0..0];
-    }
-    if to > line.len() {
-        return &line[0..0];
-    }
-    &line[from..to]
-}
-
-// The same of numbers.
-pub fn span(numbers: &[i32], from: usize, to: usize) -> &[i32] {
-    if from > to {
-        return &numbers[0..0];
-    }
-    if to > numbers.len() {
-        return &numbers[0..0];
-    }
-    &numbers[from..to]
-}
-
-// Number k of a list, or 0 after its end.
-pub fn number_at(numbers: &[i32], k: usize) -> i32 {
-    if k < numbers.len() {
-        return numbers[k];
-    }
-    0
-}
-
-// Whether two parts have the same bytes.
-pub fn same(a: &[u8], b: &[u8]) -> bool {
-    if a.len() != b.len() {
-        return false;
-    }
-    let mut i = 0;
-    while i < a.len() {
-        if a[i] != b[i] {
-            return false;
+impl Lists {
+    // The lists of a line, or none where a word is no number or where there are more than LISTS.
+    pub fn of(line: &[u8]) -> Option<Lists> {
+        let mut lists = Lists {
+            numbers: [0; NUMBERS],
+            kept: 0,
+            ends: [0; LISTS],
+            count: 0,
+        };
+        for list in line.split(|byte| *byte == b';') {
+            lists.push(list)?;
         }
-        i += 1;
+        Some(lists)
     }
-    true
-}
 
-// The first word of a line.
-pub fn first_word(line: &[u8]) -> &[u8] {
-    let from = run_end(line, 0, Run::Space);
-    bytes_of(line, from, run_end(line, from, Run::Word))
-}
-
-// What stands after the first word.
-pub fn after_word(line: &[u8]) -> &[u8] {
-    let from = run_end(line, 0, Run::Space);
-    bytes_of(line, run_end(line, from, Run::Word), line.len())
-}
-
-// The numbers with one more, where there is a place for it.
-fn keep(kept: &mut [i32], count: usize, x: i32) -> usize {
-    if count < kept.len() {
-        kept[count] = x;
-        return count + 1;
+    // How many there are.
+    pub fn count(&self) -> usize {
+        self.count
     }
-    count
-}
 
-impl Scan {
-    // The scan after a word that has ended.
-    fn after(self, valid: bool, count: usize) -> Scan {
-        Scan {
-            valid,
-            count,
-            lists: self.lists,
-            word: Word::Empty,
+    // List k, which is empty where there are not so many.
+    pub fn list(&self, k: usize) -> &[i32] {
+        let from = match k.checked_sub(1) {
+            Some(before) => self.end(before),
+            None => 0,
+        };
+        self.numbers.get(from..self.end(k)).unwrap_or(&[])
+    }
+
+    // The place after the last number of list k.
+    fn end(&self, k: usize) -> usize {
+        self.ends.get(k).copied().unwrap_or(0)
+    }
+
+    // A number more, where there is a place for it.
+    fn keep(&mut self, x: i32) {
+        if let Some(place) = self.numbers.get_mut(self.kept) {
+            *place = x;
+            self.kept += 1;
         }
     }
 
-    // A word ends here.
-    fn ended(self, words: &mut [i32]) -> Scan {
-        let valid = self.valid;
-        let count = self.count;
-        let word = self.word;
-        let reading = word.reading();
-        match reading {
-            Reading::Nothing => self.after(valid, count),
-            Reading::Number(x) => self.after(valid, keep(words, count, x)),
-            Reading::Wrong => self.after(false, count),
+    // A list more.
+    fn push(&mut self, list: &[u8]) -> Option<()> {
+        for word in list.split(|byte| is_space(*byte)) {
+            if !word.is_empty() {
+                self.keep(number_of(word)?);
+            }
         }
-    }
-
-    // A list ends here.
-    fn closed(self, words: &mut [i32], ends: &mut [usize]) -> Scan {
-        let mut next = self.ended(words);
-        let k = next.lists;
-        if k >= ends.len() {
-            next.valid = false;
-            return next;
-        }
-        ends[k] = next.count;
-        next.lists = k + 1;
-        next
-    }
-
-    // One byte more: white space ends a word, a semicolon a list, and any other byte belongs to the word.
-    fn step(self, words: &mut [i32], ends: &mut [usize], byte: u8) -> Scan {
-        if is_space(byte) {
-            return self.ended(words);
-        }
-        if byte == b';' {
-            return self.closed(words, ends);
-        }
-        let valid = self.valid;
-        let count = self.count;
-        let lists = self.lists;
-        let word = self.word;
-        Scan {
-            valid,
-            count,
-            lists,
-            word: word.next(byte),
-        }
+        *self.ends.get_mut(self.count)? = self.kept;
+        self.count += 1;
+        Some(())
     }
 }
 
-// The lists of a line, put into `words`, and their ends into `ends`; how many there are, or none where a word is no number.
-pub fn lists_in(words: &mut [i32], ends: &mut [usize], line: &[u8]) -> usize {
-    let mut scan = Scan {
-        valid: true,
-        count: 0,
-        lists: 0,
-        word: Word::Empty,
-    };
-    let mut i = 0;
-    while i < line.len() {
-        scan = scan.step(words, ends, line[i]);
-        i += 1;
-    }
-    let last = scan.closed(words, ends);
-    if last.valid {
-        return last.lists;
-    }
-    0
-}
-
-// The end of the list before list k.
-fn list_start(ends: &[usize], k: usize) -> usize {
-    if k == 0 {
-        return 0;
-    }
-    if k > ends.len() {
-        return 0;
-    }
-    ends[k - 1]
-}
-
-// List k of a line, or none where it has not so many.
-pub fn list<'a, 'b>(words: &'a [i32], ends: &'b [usize], k: usize) -> &'a [i32] {
-    if k >= ends.len() {
-        return &words[0..0];
-    }
-    span(words, list_start(ends, k), ends[k])
-}
-
-// A variable's number, or VARIABLES where it is not known.
-pub fn place_of(variable: i32) -> usize {
-    if !variable_is_accepted(variable) {
-        return VARIABLES;
-    }
-    nat_of(variable) as usize
+// The number of a task or a variable that a whole number names: the largest, which none has, where it is negative.
+pub fn place_of(x: i32) -> usize {
+    usize::try_from(x).unwrap_or(usize::MAX)
 }

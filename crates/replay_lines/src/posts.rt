@@ -1,11 +1,7 @@
 // The lines of posts and of their reasons.
-use crate::lines::{
-    AT_LEAST, AT_MOST, OVERLOAD, POST, WHY, end_line, say_count, say_number, say_numbers,
-    say_refused, say_space, say_word,
-};
-use post_words::{
-    atoms_in, kind_at, post_number, post_reason, posts_in, stretch, task_at, value_at, variable_at,
-};
+use crate::lines::{say_numbers, say_refused};
+use integers::refused::Refusal;
+use post_words::{atoms_in, post_number, post_reason, stretch};
 use std::io;
 use std::io::Write;
 
@@ -16,10 +12,8 @@ pub fn say_posts<W: Write>(
     atoms: &[i32],
     count: usize,
 ) -> io::Result<()> {
-    let mut j = 0;
-    while j < count {
+    for j in 0..count {
         say_post(output, posts, atoms, count, j)?;
-        j += 1;
     }
     Ok(())
 }
@@ -32,50 +26,28 @@ fn say_post<W: Write>(
     count: usize,
     j: usize,
 ) -> io::Result<()> {
-    let number = post_number(posts, atoms, count, j);
-    if number != 0 {
-        return say_refused(output, number);
+    if post_number(posts, atoms, count, j) != 0 {
+        return say_refused(output, Refusal::Post);
     }
-    say_word(output, POST)?;
-    say_words(output, posts, j)?;
+    if let Some(words) = posts.chunks_exact(4).nth(j) {
+        write!(output, "post")?;
+        say_numbers(output, words)?;
+    }
     say_reason(output, post_reason(posts, atoms, count, j))
-}
-
-// The four words of post j.
-fn say_words<W: Write>(output: &mut W, posts: &[i32], j: usize) -> io::Result<()> {
-    if j >= posts_in(posts) {
-        return Ok(());
-    }
-    let from = task_at(j);
-    let to = task_at(j + 1);
-    say_numbers(output, &posts[from..to])
 }
 
 // The lines of a reason.
 fn say_reason<W: Write>(output: &mut W, words: &[i32]) -> io::Result<()> {
-    let n = atoms_in(words);
-    let mut k = 0;
-    while k < n {
-        say_why(
-            output,
-            words[variable_at(k)],
-            words[kind_at(k)],
-            words[value_at(k)],
-        )?;
-        k += 1;
+    for atom in words.chunks_exact(3) {
+        say_why(output, atom[0], atom[1], atom[2])?;
     }
     Ok(())
 }
 
 // The line of an atom; reasons have no other kinds than these two.
 fn say_why<W: Write>(output: &mut W, variable: i32, kind: i32, value: i32) -> io::Result<()> {
-    let sign = if kind == 0 { AT_LEAST } else { AT_MOST };
-    say_word(output, WHY)?;
-    say_number(output, variable)?;
-    say_space(output)?;
-    say_word(output, sign)?;
-    say_number(output, value)?;
-    end_line(output)
+    let sign = if kind == 0 { ">=" } else { "<=" };
+    writeln!(output, "why {variable} {sign} {value}")
 }
 
 // The end of a run that found an overload, with its reason.
@@ -85,10 +57,7 @@ pub fn say_overload<W: Write>(
     first: usize,
     count: usize,
 ) -> io::Result<()> {
-    say_word(output, OVERLOAD)?;
-    say_count(output, first)?;
-    say_count(output, count)?;
-    end_line(output)?;
+    writeln!(output, "overload {first} {count}")?;
     say_atoms(output, atoms, first, count)
 }
 
@@ -100,10 +69,7 @@ pub fn say_atoms<W: Write>(
     count: usize,
 ) -> io::Result<()> {
     let all = atoms_in(atoms);
-    if first > all {
-        return Ok(());
-    }
-    if count > all - first {
+    if first > all || count > all - first {
         return Ok(());
     }
     say_reason(output, stretch(atoms, first, count))

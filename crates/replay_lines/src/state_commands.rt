@@ -1,64 +1,45 @@
 // The commands on the variable state.
-ghost use Rattle.std.specs.Prelude.{◌<◌};
-ghost use Rattle.integers.specs.Limits.{VARIABLES};
-
-use crate::lines::{
-    EMPTY, FALSE, NEGATIVE_INF, POSITIVE_INF, PREPARED, TRUE, VARIABLE, end_line,
-    say_contradiction, say_count, say_error, say_line, say_numbers, say_refused, say_space,
-    say_whole, say_word,
-};
-use crate::parts::{number_at, place_of, span};
-use crate::words::{IS_TRUE, LOWER, STATE, UPPER};
+use crate::lines::{say_contradiction, say_error, say_numbers, say_refused};
+use crate::parts::place_of;
+use crate::words::Query;
 use checking::domain::Domain;
 use checking::int_ext::IntExt;
-use checking::variable_state::{Application, Bound, Truth, VariableState};
-use integers::limits::VARIABLES;
-use integers::numbers::word_of;
-use integers::refused;
-use post_words::{atoms_in, variable_at};
+use checking::variable_state::{Application, VariableState};
+use integers::refused::Refusal;
 use std::io;
 use std::io::Write;
 
-// `state` and `apply`: the state after one of them.
-pub fn answer_state<W: Write>(
-    output: &mut W,
-    state: VariableState,
-    command: usize,
-    words: &[i32],
-) -> io::Result<VariableState> {
-    if command != STATE {
-        return answer_apply(output, state, words);
-    }
-    say_line(output, EMPTY)?;
+// `state`: the empty state.
+pub fn answer_empty<W: Write>(output: &mut W) -> io::Result<VariableState> {
+    writeln!(output, "empty")?;
     Ok(VariableState::default())
 }
 
-// Whether a list is one of atoms, and not empty.
-fn has_atoms(words: &[i32]) -> bool {
-    words.len() >= 3 && words.len() % 3 == 0
+// The first atom of a list of atoms, if it has one.
+fn first_atom(words: &[i32]) -> Option<(i32, i32, i32)> {
+    match words {
+        [variable, kind, value, ..] if words.len() % 3 == 0 => Some((*variable, *kind, *value)),
+        _ => None,
+    }
 }
 
 // `apply`: the state with the first atom of a list, or the state unchanged.
-fn answer_apply<W: Write>(
+pub fn answer_apply<W: Write>(
     output: &mut W,
     state: VariableState,
     words: &[i32],
 ) -> io::Result<VariableState> {
-    if !has_atoms(words) {
+    let Some((variable, kind, value)) = first_atom(words) else {
         say_error(output)?;
         return Ok(state);
-    }
-    let next = state.apply(
-        number_at(words, 0),
-        number_at(words, 1),
-        number_at(words, 2),
-    );
+    };
+    let next = state.apply(variable, kind, value);
     let answer = next.answer;
     let after = next.state;
     match answer {
-        Application::Consistent => say_variable(output, after, place_of(number_at(words, 0))),
+        Application::Consistent => say_variable(output, &after, variable),
         Application::Contradiction(x) => say_contradiction(output, x),
-        Application::Refused(number) => say_refused(output, number),
+        Application::Refused(why) => say_refused(output, why),
     }?;
     Ok(after)
 }
@@ -67,133 +48,85 @@ fn answer_apply<W: Write>(
 pub fn answer_query<W: Write>(
     output: &mut W,
     state: VariableState,
-    command: usize,
+    query: Query,
     words: &[i32],
 ) -> io::Result<()> {
-    if words.len() == 0 {
+    let [first, ..] = words else {
         return say_error(output);
+    };
+    match query {
+        Query::IsTrue => answer_truth(output, state, words),
+        Query::Lower => say_bound(output, state.lower_bound(*first)),
+        Query::Upper => say_bound(output, state.upper_bound(*first)),
+        Query::Show => say_variable(output, &state, *first),
     }
-    if command == IS_TRUE {
-        return answer_truth(output, state, words);
-    }
-    if command == LOWER {
-        return say_bound(output, state.lower_bound(words[0]));
-    }
-    if command == UPPER {
-        return say_bound(output, state.upper_bound(words[0]));
-    }
-    say_variable(output, state, place_of(words[0]))
 }
 
 // `is_true`: whether the first atom of a list is true.
 fn answer_truth<W: Write>(output: &mut W, state: VariableState, words: &[i32]) -> io::Result<()> {
-    if !has_atoms(words) {
+    let Some((variable, kind, value)) = first_atom(words) else {
         return say_error(output);
-    }
-    say_truth(
-        output,
-        state.is_true(
-            number_at(words, 0),
-            number_at(words, 1),
-            number_at(words, 2),
-        ),
-    )
-}
-
-// The line of a truth.
-fn say_truth<W: Write>(output: &mut W, truth: Truth) -> io::Result<()> {
-    match truth {
-        Truth::True => say_line(output, TRUE),
-        Truth::False => say_line(output, FALSE),
-        Truth::Refused(number) => say_refused(output, number),
+    };
+    match state.is_true(variable, kind, value) {
+        Ok(truth) => writeln!(output, "{truth}"),
+        Err(why) => say_refused(output, why),
     }
 }
 
 // The line of a bound.
-fn say_bound<W: Write>(output: &mut W, bound: Bound) -> io::Result<()> {
+fn say_bound<W: Write>(output: &mut W, bound: Result<IntExt, Refusal>) -> io::Result<()> {
     match bound {
-        Bound::At(x) => {
+        Ok(x) => {
             say_ext(output, x)?;
-            end_line(output)
+            writeln!(output)
         }
-        Bound::Refused(number) => say_refused(output, number),
+        Err(why) => say_refused(output, why),
     }
 }
 
 // A whole number or an infinity.
 fn say_ext<W: Write>(output: &mut W, x: IntExt) -> io::Result<()> {
     match x {
-        IntExt::Int(v) => say_whole(output, v),
-        IntExt::NegativeInf => say_word(output, NEGATIVE_INF),
-        IntExt::PositiveInf => say_word(output, POSITIVE_INF),
+        IntExt::Int(v) => write!(output, "{v}"),
+        IntExt::NegativeInf => write!(output, "-inf"),
+        IntExt::PositiveInf => write!(output, "+inf"),
     }
 }
 
-// The line of a variable: its bounds and its holes.
-fn say_variable<W: Write>(output: &mut W, state: VariableState, x: usize) -> io::Result<()> {
-    if x >= VARIABLES {
-        return say_refused(output, refused::ATOMS);
+// The line of a variable.
+fn say_variable<W: Write>(output: &mut W, state: &VariableState, variable: i32) -> io::Result<()> {
+    let x = place_of(variable);
+    match state.domains.get(x) {
+        Some(domain) => say_domain(output, x, domain),
+        None => say_refused(output, Refusal::Atoms),
     }
-    let domain = state.domains[x];
-    say_word(output, VARIABLE)?;
-    say_count(output, x)?;
-    say_domain(output, domain)
 }
 
-// The rest of that line.
-fn say_domain<W: Write>(output: &mut W, domain: Domain) -> io::Result<()> {
-    let lower = domain.lower_bound;
-    let upper = domain.upper_bound;
-    let holes = domain.holes;
-    let count = domain.count;
-    say_space(output)?;
-    say_ext(output, lower)?;
-    say_space(output)?;
-    say_ext(output, upper)?;
-    say_numbers(output, span(&holes, 0, count))
+// The line of variable x: its bounds and its holes.
+fn say_domain<W: Write>(output: &mut W, x: usize, domain: &Domain) -> io::Result<()> {
+    write!(output, "var {x} ")?;
+    say_ext(output, domain.lower_bound)?;
+    write!(output, " ")?;
+    say_ext(output, domain.upper_bound)?;
+    say_numbers(output, domain.holes.get(..domain.count).unwrap_or(&[]))
 }
 
-// Whether an atom of the words is on a variable.
-fn mentions(words: &[i32], variable: i32) -> bool {
-    let n = atoms_in(words);
-    let mut k = 0;
-    while k < n {
-        if words[variable_at(k)] == variable {
-            return true;
-        }
-        k += 1;
-    }
-    false
-}
-
-// The line of a variable, where one of the atoms is on it.
-fn say_if_mentioned<W: Write>(
-    output: &mut W,
-    state: VariableState,
-    premises: &[i32],
-    consequent: &[i32],
-    x: usize,
-) -> io::Result<()>
-    requires { x < VARIABLES }
-{
-    let variable = word_of(x);
-    if mentions(premises, variable) || mentions(consequent, variable) {
-        return say_variable(output, state, x);
-    }
-    Ok(())
+// Whether an atom of the words is on variable x.
+fn mentions(words: &[i32], x: usize) -> bool {
+    words.chunks_exact(3).any(|atom| place_of(atom[0]) == x)
 }
 
 // The lines of the variables that the atoms are on.
 fn say_mentioned<W: Write>(
     output: &mut W,
-    state: VariableState,
+    state: &VariableState,
     premises: &[i32],
     consequent: &[i32],
 ) -> io::Result<()> {
-    let mut x = 0;
-    while x < VARIABLES {
-        say_if_mentioned(output, state, premises, consequent, x)?;
-        x += 1;
+    for (x, domain) in state.domains.iter().enumerate() {
+        if mentions(premises, x) || mentions(consequent, x) {
+            say_domain(output, x, domain)?;
+        }
     }
     Ok(())
 }
@@ -210,12 +143,12 @@ pub fn answer_prepare<W: Write>(
     let after = next.state;
     match answer {
         Application::Consistent => {
-            say_line(output, PREPARED)?;
-            say_mentioned(output, after, premises, consequent)?;
+            writeln!(output, "prepared")?;
+            say_mentioned(output, &after, premises, consequent)?;
             return Ok(after);
         }
         Application::Contradiction(x) => say_contradiction(output, x),
-        Application::Refused(number) => say_refused(output, number),
+        Application::Refused(why) => say_refused(output, why),
     }?;
     Ok(state)
 }

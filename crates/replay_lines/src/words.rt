@@ -1,86 +1,102 @@
-// The protocol's words. A word is known by its place: that of a command among the commands, that of an answer's word among the answers' words.
-use crate::parts::{bytes_of, same};
-use text::words::{Run, run_end};
+// The protocol's commands.
 
-// The commands, in the order of `number_of`: first those with one list of numbers.
-pub const CREATE: usize = 0;
-
-pub const REMOVE: usize = 2;
-
-pub const STATE: usize = 3;
-
-pub const APPLY: usize = 4;
-
-pub const IS_TRUE: usize = 5;
-
-pub const LOWER: usize = 6;
-
-pub const UPPER: usize = 7;
-
-pub const SHOW: usize = 8;
-
-pub const PREPARE: usize = 9;
-
-pub const CHECK: usize = 10;
-
-pub const CHECK_MIRRORED: usize = 11;
-
-// Those on a fixed schedule, those on ranges, and those on the bound of one task.
-pub const PAGE: usize = 12;
-
-pub const CHARGES: usize = 13;
-
-pub const FREE: usize = 14;
-
-pub const BUSIEST: usize = 15;
-
-pub const RUN: usize = 16;
-
-pub const MIRROR: usize = 17;
-
-pub const QUICK: usize = 18;
-
-pub const PRECEDE: usize = 19;
-
-pub const CONFLICT: usize = 20;
-
-pub const CONFLICT_PAGE: usize = 21;
-
-pub const PRECEDE_WHY: usize = 22;
-
-pub const PRECEDE_BOUND: usize = 23;
-
-const COMMANDS: usize = 24;
-
-// Word k of a text, or no bytes after its last.
-pub fn word_at(text: &[u8], k: usize) -> &[u8] {
-    let mut from = run_end(text, 0, Run::Space);
-    let mut i = 0;
-    while i < k {
-        from = run_end(text, run_end(text, from, Run::Word), Run::Space);
-        i += 1;
-    }
-    bytes_of(text, from, run_end(text, from, Run::Word))
+// A question on the variable state.
+#[derive(Clone, Copy)]
+pub enum Query {
+    IsTrue,
+    Lower,
+    Upper,
+    Show,
 }
 
-// The place of a word among the first n of a text, or n.
-fn place_among(word: &[u8], text: &[u8], n: usize) -> usize {
-    let mut k = 0;
-    while k < n {
-        if same(word, word_at(text, k)) {
-            return k;
-        }
-        k += 1;
-    }
-    n
+// A question on a fixed schedule.
+#[derive(Clone, Copy)]
+pub enum Fixed {
+    Page,
+    Charges,
+    Free,
+    Busiest,
 }
 
-// The number of a command, or COMMANDS where the word is none.
-pub fn number_of(word: &[u8]) -> usize {
-    place_among(
-        word,
-        b"create add remove state apply is-true lower upper show prepare check check-mirrored
-        page charges free busiest run mirror quick precede conflict conflict-page precede-why precede-bound",
-        COMMANDS,
-    )
+// A question on ranges that may have barred starts.
+#[derive(Clone, Copy)]
+pub enum Barred {
+    Run,
+    Mirror,
+    Quick,
+    Precede,
+    Conflict,
+    ConflictPage,
+}
+
+// A question on the bound that the precedences give one task of such ranges.
+#[derive(Clone, Copy)]
+pub enum OneBound {
+    Value,
+    Reason,
+}
+
+// A question on the record and on ranges.
+#[derive(Clone, Copy)]
+pub enum OnRanges {
+    Fixed(Fixed),
+    Barred(Barred),
+    OneBound(OneBound),
+}
+
+// A command.
+#[derive(Clone, Copy)]
+pub enum Command {
+    Create,
+    Add,
+    Remove,
+    State,
+    Apply,
+    Query(Query),
+    Prepare,
+    Check,
+    CheckMirrored,
+    OnRanges(OnRanges),
+}
+
+impl Command {
+    // The command of a word, if it is one.
+    pub fn of(word: &[u8]) -> Option<Command> {
+        let command = match word {
+            b"create" => Command::Create,
+            b"add" => Command::Add,
+            b"remove" => Command::Remove,
+            b"state" => Command::State,
+            b"apply" => Command::Apply,
+            b"is-true" => Command::Query(Query::IsTrue),
+            b"lower" => Command::Query(Query::Lower),
+            b"upper" => Command::Query(Query::Upper),
+            b"show" => Command::Query(Query::Show),
+            b"prepare" => Command::Prepare,
+            b"check" => Command::Check,
+            b"check-mirrored" => Command::CheckMirrored,
+            b"page" => Command::OnRanges(OnRanges::Fixed(Fixed::Page)),
+            b"charges" => Command::OnRanges(OnRanges::Fixed(Fixed::Charges)),
+            b"free" => Command::OnRanges(OnRanges::Fixed(Fixed::Free)),
+            b"busiest" => Command::OnRanges(OnRanges::Fixed(Fixed::Busiest)),
+            b"run" => Command::OnRanges(OnRanges::Barred(Barred::Run)),
+            b"mirror" => Command::OnRanges(OnRanges::Barred(Barred::Mirror)),
+            b"quick" => Command::OnRanges(OnRanges::Barred(Barred::Quick)),
+            b"precede" => Command::OnRanges(OnRanges::Barred(Barred::Precede)),
+            b"conflict" => Command::OnRanges(OnRanges::Barred(Barred::Conflict)),
+            b"conflict-page" => Command::OnRanges(OnRanges::Barred(Barred::ConflictPage)),
+            b"precede-bound" => Command::OnRanges(OnRanges::OneBound(OneBound::Value)),
+            b"precede-why" => Command::OnRanges(OnRanges::OneBound(OneBound::Reason)),
+            _ => return None,
+        };
+        Some(command)
+    }
+
+    // Whether it takes several lists of numbers; the others take one.
+    pub fn takes_lists(self) -> bool {
+        matches!(
+            self,
+            Command::Prepare | Command::Check | Command::CheckMirrored | Command::OnRanges(_)
+        )
+    }
 }

@@ -14,19 +14,21 @@ use Rattle.runs.specs.declared.outcome.Outcome.{Outcome}
 use Rattle.runs.specs.declared.outcome.Outcome.TheVariants as outcome
 use Rattle.runs.specs.Outcomes.{outcome_numbers, value_of, first_of, count_of}
 use Rattle.runs.specs.EndNumbers.{end_numbers, trace_numbers}
+use Rattle.integers.specs.Reasons.{reason_of}
+use Rattle.integers.proofs.RefusalNumbers.{reason_is}
 
 -- an outcome, read back from its numbers
 abbrev outcome_at : ℕ → Answer → Outcome
 outcome_at zero a = outcome.Done (nat_abs (get_or a.values 0 (pos 0)))
 outcome_at (suc zero) a = outcome.Overload (nat_abs (get_or a.values 0 (pos 0))) (nat_abs (get_or a.values 1 (pos 0))) (nat_abs (get_or a.values 2 (pos 0)))
 outcome_at (suc (suc zero)) a = outcome.Emptied (nat_abs (get_or a.values 0 (pos 0)))
-outcome_at (suc (suc (suc k))) a = outcome.Refused a.number
+outcome_at (suc (suc (suc k))) a = outcome.Refused (reason_of a.number)
 
 outcome_back : (o : Outcome) → outcome_at (outcome_numbers o).kind (outcome_numbers o) ≡ o
 outcome_back (outcome.Done posts) = refl
 outcome_back (outcome.Overload posts first count) = refl
 outcome_back (outcome.Emptied posts) = refl
-outcome_back (outcome.Refused number) = refl
+outcome_back (outcome.Refused why) = ap outcome.Refused (reason_is why)
 
 pub outcomes_apart : (o o' : Outcome) → outcome_numbers o ≡ outcome_numbers o' → o ≡ o'
 outcomes_apart o o' e = sym (outcome_back o) ∙ ap (λ (a : Answer). outcome_at a.kind a) e ∙ outcome_back o'

@@ -1,6 +1,7 @@
 -- Outcomes by the papers' numbers.
 use Rattle.std.specs.Prelude.{[], ◌∷◌, ℕ, pos, nat_abs, get_or}
 use Rattle.integers.specs.Answers.{Answer, answered, refused_by}
+use Rattle.integers.specs.Refused.{number_of}
 use Rattle.runs.specs.declared.outcome.Outcome.{Outcome}
 use Rattle.runs.specs.declared.outcome.Outcome.TheVariants as outcome
 
@@ -9,7 +10,7 @@ abbrev pub outcome_numbers : Outcome → Answer
 outcome_numbers (outcome.Done posts) = answered 0 (pos posts ∷ [])
 outcome_numbers (outcome.Overload posts first count) = answered 1 (pos posts ∷ pos first ∷ pos count ∷ [])
 outcome_numbers (outcome.Emptied posts) = answered 2 (pos posts ∷ [])
-outcome_numbers (outcome.Refused number) = refused_by number
+outcome_numbers (outcome.Refused why) = refused_by (number_of why)
 
 -- value k of an outcome; 0 where it has none
 abbrev pub value_of : Outcome → ℕ → ℕ

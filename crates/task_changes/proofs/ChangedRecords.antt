@@ -1,5 +1,8 @@
 -- A record after either change: that it stays lawful, and which durations it holds.
 use mathlib.Core.Path.{◌≡◌, refl, sym, ap, ap₂, subst, ◌∙◌}
+use mathlib.Core.Bool.{true, false}
+use Rattle.std.specs.Prelude.{Result, Ok, Err}
+use Rattle.std.specs.Result.{is_err}
 use mathlib.Core.List.{List, [], ◌∷◌, ◌++◌}
 use Prim.Native.Nat.{ℕ, ◌+◌, ◌-◌, ◌≤◌, ◌<◌}
 use native.Mathlib.Omega.{arith}
@@ -10,9 +13,11 @@ use lib.ListN.{length, get_or, take, set, length-append, get_or-append}
 use lib.Seq.{length-take-le, get_or-take, get_or-append_seam}
 use borrow.Author.Tests.{leb-true}
 use Rattle.integers.specs.Limits.{TASKS, DURATIONS}
-use Rattle.integers.specs.Answers.{refused_by}
+use Rattle.integers.specs.Answers.{answered, refused_by}
+use Rattle.integers.specs.Refused.{number_in}
+use Rattle.integers.specs.declared.refused.Refusal.{Refusal}
 use Rattle.integers.proofs.Bools.{clash}
-use Rattle.integers.proofs.Ints.{ints, up, dn, le_le_z}
+use Rattle.integers.proofs.Ints.{le_le_z}
 use Rattle.integers.proofs.Tests.{accepted}
 use Rattle.scheduling.specs.Scheduling.{total}
 use Rattle.scheduling.proofs.Sets.{total_ext, total_part}
@@ -20,7 +25,8 @@ use Rattle.records.specs.declared.record.DisjunctivePropagator.{DisjunctivePropa
 use Rattle.records.specs.Records.{Lawful, duration_for, record_of}
 use Rattle.records.proofs.Lawful.{lawful_is}
 use Rattle.records.proofs.TestsInOrder.{as_facts}
-use Rattle.task_changes.specs.declared.changes.Change.TheVariants.{Made, Refused}
+use Rattle.records.proofs.Reasons.{some_refused, none_refused}
+use Rattle.task_changes.specs.Numbers.{numbers_of_change}
 use Rattle.task_changes.specs.Lists.{placed, sum_of, without}
 use Rattle.task_changes.specs.Changes.{durations_of, added, removed, add_tests, add_number, remove_tests, remove_number, TaskAdded, TaskRemoved}
 use Rattle.task_changes.proofs.PlacedLists.{placed_length, placed_front, placed_at, placed_past, front_placed, last_stored}
@@ -142,51 +148,62 @@ addable r d h = let t = accepted (add_tests r d) refl h in search (as_facts, (la
 pub removable : (r : DisjunctivePropagator) (t : ℕ) → remove_number r t ≡ 0 → Removable r t
 removable r t h = let f = accepted (remove_tests r t) refl h in search (as_facts, (lawful_is r).0, less_room)
 
--- The contracts that the calls meet: the number m that a call has answered, u being its argument as it is read from bits.
-module _ (r : DisjunctivePropagator) (d u : ℤ) {m : ℕ} (e : m ≡ add_number r u) (same : u ≡ d) where
-  number : m ≡ add_number r d
-  number = e ∙ ap (add_number r) same
+-- The record with a task more and with one less, as the code stores it.
+pub stored_more : (r : DisjunctivePropagator) → Lawful r → length r.durations ≡ TASKS → r.count < TASKS → (d : ℕ) {more : ℕ} → more ≡ d
+    → ◌≡◌ {A = DisjunctivePropagator} (record { count = r.count + 1; durations = set r.durations r.count more; total = r.total + more }) (added r d)
+stored_more r l long room d {more} e = let last = last_stored r.count r.durations more long room l.unused in cc (last, e)
 
-  pub add_refused : (m ≡ 0 → ⊥) → TaskAdded r d (record { «record» = r; answer = Refused m })
-  add_refused not = record { refused = λ _. record { answer = ap refused_by number; stands = refl }; made = λ z. absurd (not (number ∙ z)); lawful = λ z. absurd (not (number ∙ z)) }
+pub stored_less : (r : DisjunctivePropagator) (t : ℕ) (left : List ℕ) → left ≡ (removed r t).durations
+    → ◌≡◌ {A = DisjunctivePropagator} (record { count = r.count - 1; durations = left; total = r.total - get_or r.durations t 0 }) (removed r t)
+stored_less r t left e = ap (λ (l : List ℕ). record_of (r.count - 1) l (r.total - get_or r.durations t 0)) e
 
-  module _ (z : m ≡ 0) where
+-- The contracts that the calls meet, by the answer that the tests gave.
+refused_numbers : (answer : Result Unit Refusal) → is_err answer ≡ true → numbers_of_change answer ≡ refused_by (number_in answer)
+refused_numbers (Ok made) h = clash h refl
+refused_numbers (Err why) h = refl
+
+made_numbers : (answer : Result Unit Refusal) → is_err answer ≡ false → numbers_of_change answer ≡ answered 0 []
+made_numbers (Ok made) h = refl
+made_numbers (Err why) h = clash refl h
+
+module _ (r : DisjunctivePropagator) (d : ℤ) (answer : Result Unit Refusal) (e : number_in answer ≡ add_number r d) where
+  pub add_refused : is_err answer ≡ true → TaskAdded r d (record { «record» = r; answer = answer })
+  add_refused h =
+      let not = some_refused answer h in
+      record {
+        refused = λ _. record { answer = refused_numbers answer h ∙ ap refused_by e; stands = refl };
+        made = λ z. absurd (not (e ∙ z));
+        lawful = λ z. absurd (not (e ∙ z));
+      }
+
+  module _ (h : is_err answer ≡ false) where
     pub may_add : Addable r d
-    may_add = addable r d (sym number ∙ z)
+    may_add = addable r d (sym e ∙ none_refused answer h)
 
-    pub not_negative : pos 0 ≤ℤ u
-    unfolding up dn
-    not_negative = omega (ints, may_add.lasts, same)
-
-    -- the record as the code stores it
-    pub add_made : (more : ℕ) → pos more ≡ u → length r.durations ≡ TASKS
-        → TaskAdded r d (record { «record» = record { count = r.count + 1; durations = set r.durations r.count more; total = r.total + more }; answer = Made })
-    add_made more p long = record {
-      refused = λ not. absurd (not (sym number ∙ z));
-      made = λ _. record { answer = refl; stands = stored };
+    pub add_made : (after : DisjunctivePropagator) → after ≡ added r (duration_for d) → length r.durations ≡ TASKS → TaskAdded r d (record { «record» = after; answer = answer })
+    add_made after stored long = record {
+      refused = λ not. absurd (not (sym e ∙ none_refused answer h));
+      made = λ _. record { answer = made_numbers answer h; stands = stored };
       lawful = λ _. subst Lawful (sym stored) (added_lawful r may_add.lawful long (duration_for d) may_add.room (lasting d may_add.lasts) may_add.fits);
     }
-      where
-        stored : ◌≡◌ {A = DisjunctivePropagator} (record { count = r.count + 1; durations = set r.durations r.count more; total = r.total + more }) (added r (duration_for d))
-        stored =
-            let last = last_stored r.count r.durations more long may_add.room may_add.lawful.unused in
-            let more_is = ap duration_for (p ∙ same) in
-            cc (last, more_is)
 
-module _ (r : DisjunctivePropagator) (t : ℕ) {m : ℕ} (e : m ≡ remove_number r t) where
-  pub remove_refused : (m ≡ 0 → ⊥) → TaskRemoved r t (record { «record» = r; answer = Refused m })
-  remove_refused not = record { refused = λ _. record { answer = ap refused_by e; stands = refl }; made = λ z. absurd (not (e ∙ z)); lawful = λ z. absurd (not (e ∙ z)) }
-
-  pub may_remove : m ≡ 0 → Removable r t
-  may_remove z = removable r t (sym e ∙ z)
-
-  pub remove_made : m ≡ 0 → length r.durations ≡ TASKS → (ds : List ℕ) → ds ≡ (removed r t).durations
-      → TaskRemoved r t (record { «record» = record { count = r.count - 1; durations = ds; total = r.total - get_or r.durations t 0 }; answer = Made })
-  remove_made z long ds s =
-      let a = may_remove z in
-      let stored = ap (λ (l : List ℕ). record_of (r.count - 1) l (r.total - get_or r.durations t 0)) s in
+module _ (r : DisjunctivePropagator) (t : ℕ) (answer : Result Unit Refusal) (e : number_in answer ≡ remove_number r t) where
+  pub remove_refused : is_err answer ≡ true → TaskRemoved r t (record { «record» = r; answer = answer })
+  remove_refused h =
+      let not = some_refused answer h in
       record {
-        refused = λ not. absurd (not (sym e ∙ z));
-        made = λ _. record { answer = refl; stands = stored };
-        lawful = λ _. subst Lawful (sym stored) (removed_lawful r a.lawful long t a.there a.many);
+        refused = λ _. record { answer = refused_numbers answer h ∙ ap refused_by e; stands = refl };
+        made = λ z. absurd (not (e ∙ z));
+        lawful = λ z. absurd (not (e ∙ z));
       }
+
+  module _ (h : is_err answer ≡ false) where
+    pub may_remove : Removable r t
+    may_remove = removable r t (sym e ∙ none_refused answer h)
+
+    pub remove_made : (after : DisjunctivePropagator) → after ≡ removed r t → length r.durations ≡ TASKS → TaskRemoved r t (record { «record» = after; answer = answer })
+    remove_made after stored long = let a = may_remove in record {
+      refused = λ not. absurd (not (sym e ∙ none_refused answer h));
+      made = λ _. record { answer = made_numbers answer h; stands = stored };
+      lawful = λ _. subst Lawful (sym stored) (removed_lawful r a.lawful long t a.there a.many);
+    }

@@ -4,12 +4,15 @@ use mathlib.Core.List.{List, [], ◌∷◌, ◌++◌}
 use Prim.Native.Nat.{ℕ, suc, ◌+◌, ◌-◌, ◌≤◌, ◌<◌}
 use native.Mathlib.Omega.{arith}
 use native.Mathlib.Decide.{dec_lt}
-use native.Mathlib.Numerals.{add-one}
 use lib.ListN.{length, get_or, take, set, replicate, length-append, length-replicate, get_or-append}
-use lib.Seq.{length-take-le, take-append_seam, get_or-take, get_or-append-add, set-append_seam, append_snoc, take-suc, ext_get_or}
+use lib.Seq.{length-take-le, take-append_seam, get_or-take, get_or-append-add, set-append_seam, append_snoc, ext_get_or}
 use Rattle.integers.specs.Limits.{TASKS}
 use Rattle.integers.proofs.FilledLists.{get_d_fresh}
-use Rattle.task_changes.specs.Lists.{placed}
+use Rattle.std.specs.List.{CopiedTo, SameBelow, SameFrom}
+use Rattle.std.proofs.lemmas.List.{get_or-set_other, length-set}
+use Rattle.std.proofs.lemmas.Grind.{get_or-set_at}
+use Rattle.task_changes.specs.Lists.{placed, without}
+use Rattle.task_changes.proofs.LeftOut.{without_length, without_before, without_after}
 
 module _ (l : List ℕ) where
   pub placed_length : length l ≤ TASKS → length (placed l) ≡ TASKS
@@ -55,17 +58,35 @@ last_stored n l x long few unused =
     ∙ ap (λ (k : ℕ). set (placed (take n l)) k x) (sym front)
     ∙ placed_store (take n l) x (omega (arith, front, few))
 
--- A loop that copies some numbers of a list into the first places: the next one is copied, or left out.
-module _ (l next out : List ℕ) (j : ℕ) (o : out ≡ placed l) (m : j ≡ length l) where
-  pub copied : (x : ℕ) → length l < TASKS → next ≡ l ++ (x ∷ []) → (set out j x ≡ placed next) × (j + 1 ≡ length next)
-  copied x few e = (
-    ap (λ (a : List ℕ). set a j x) o ∙ ap (λ (k : ℕ). set (placed l) k x) m ∙ placed_store l x few ∙ ap placed (sym e),
-    omega (arith, m, ap length e, length-append l (x ∷ [])),
-  )
+-- Place t of the first n is closed: the numbers after it are one place lower, and the last place holds 0.
+pub gap_closed : (n t : ℕ) (l moved : List ℕ) → length l ≡ TASKS → n ≤ TASKS → t < n → ((k : ℕ) → n ≤ k → k < TASKS → get_or l k 0 ≡ 0)
+    → length moved ≡ length l → CopiedTo l moved (t + 1) t (n - (t + 1)) → SameBelow l moved t → SameFrom l moved (t + (n - (t + 1)))
+    → set moved (n - 1) 0 ≡ placed (without (take n l) t)
+gap_closed n t l moved long few there unused same copied below from = ext_get_or 0 (set moved (n - 1) 0) (placed (without (take n l) t)) sizes each
+  where
+    front : length (take n l) ≡ n
+    front = length-take-le n l (omega (arith, long, few))
 
-  pub left_out : next ≡ l → (out ≡ placed next) × (j ≡ length next)
-  left_out e = (o ∙ ap placed (sym e), m ∙ ap length (sym e))
+    size : length (without (take n l) t) + 1 ≡ n
+    size = without_length (take n l) t (omega (arith, front, there)) ∙ front
 
--- the first numbers of a list, and one more
-pub front_more : (l : List ℕ) (i : ℕ) → i < length l → take (i + 1) l ≡ take i l ++ (get_or l i 0 ∷ [])
-front_more l i h = ap (λ (k : ℕ). take k l) (add-one i) ∙ take-suc l i 0 h
+    sizes : length (set moved (n - 1) 0) ≡ length (placed (without (take n l) t))
+    sizes = omega (arith, length-set moved (n - 1) 0, same, long, placed_length (without (take n l) t) (omega (arith, size, few)))
+
+    each : (k : ℕ) → k < length (set moved (n - 1) 0) → get_or (set moved (n - 1) 0) k 0 ≡ get_or (placed (without (take n l) t)) k 0
+    each k h = elim (dec_lt k (n - 1)) [
+      | yes q ↦ get_or-set_other moved (n - 1) k 0 0 (λ e. omega arith) ∙ inner k q ∙ sym (placed_at (without (take n l) t) k (omega (arith, size)))
+      | no q ↦ last k q (omega (arith, h, length-set moved (n - 1) 0, same, long)) ∙ sym (placed_past (without (take n l) t) k (omega (arith, size)))
+    ]
+      where
+        inner : (k : ℕ) → k < n - 1 → get_or moved k 0 ≡ get_or (without (take n l) t) k 0
+        inner k q = elim (dec_lt k t) [
+          | yes b ↦ below k 0 b ∙ sym (without_before (take n l) t k b ∙ get_or-take n l k 0 (omega arith))
+          | no b ↦ copied k 0 (omega arith) (omega arith) ∙ ap (λ (j : ℕ). get_or l j 0) (omega arith) ∙ sym (without_after (take n l) t k (omega arith) ∙ get_or-take n l (suc k) 0 (omega arith))
+        ]
+
+        last : (k : ℕ) → (k < n - 1 → ⊥) → k < TASKS → get_or (set moved (n - 1) 0) k 0 ≡ 0
+        last k q few_k = elim (dec_lt (n - 1) k) [
+          | yes b ↦ get_or-set_other moved (n - 1) k 0 0 (λ e. omega arith) ∙ from k 0 (omega arith) ∙ unused k (omega arith) few_k
+          | no b ↦ get_or-set_at moved (n - 1) k 0 0 (omega arith) (omega (arith, same, long, few))
+        ]

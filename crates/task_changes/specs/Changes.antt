@@ -1,14 +1,14 @@
 -- A record with a task more, and with a task less: what each call leaves, and what refuses it.
-use Rattle.std.specs.Prelude.{◌≡◌, List, [], ◌∷◌, ◌++◌, ℕ, ◌+◌, ◌-◌, leb, ltb, ℤ, pos, get_or, take}
+use Rattle.std.specs.Prelude.{◌≡◌, List, [], ◌∷◌, ◌++◌, ℕ, ◌+◌, ◌-◌, Result, leb, ltb, ℤ, pos, get_or, take}
 use Rattle.std.specs.Int.Signed.{le_z}
 use Rattle.integers.specs.Refused as refused
+use Rattle.integers.specs.declared.refused.Refusal.{Refusal}
 use Rattle.integers.specs.Answers.{Answer, answered, refused_by}
 use Rattle.integers.specs.Limits.{DURATIONS}
 use Rattle.integers.specs.Tests.{Test, test, refusal}
 use Rattle.records.specs.declared.record.DisjunctivePropagator.{DisjunctivePropagator}
 use Rattle.records.specs.Records.{count_within, duration_for, lawful_record, Lawful}
 use Rattle.task_changes.specs.declared.changes.Changed.{Changed}
-use Rattle.task_changes.specs.declared.changes.Change.{Change}
 use Rattle.task_changes.specs.Numbers.{numbers_of_change}
 use Rattle.task_changes.specs.Lists.{placed, without}
 
@@ -73,8 +73,8 @@ module _ (r : DisjunctivePropagator) where
     pub lawful : remove_number t ≡ 0 → Lawful c.«record»
 
   -- the same on a lent record: the record at the end, and the answer
-  abbrev pub AddedLent : ℤ → Change → DisjunctivePropagator → Type 0
+  abbrev pub AddedLent : ℤ → Result Unit Refusal → DisjunctivePropagator → Type 0
   AddedLent d answer after = TaskAdded d (record { «record» = after; answer = answer })
 
-  abbrev pub RemovedLent : ℕ → Change → DisjunctivePropagator → Type 0
+  abbrev pub RemovedLent : ℕ → Result Unit Refusal → DisjunctivePropagator → Type 0
   RemovedLent t answer after = TaskRemoved t (record { «record» = after; answer = answer })

@@ -1,127 +1,116 @@
 // A task added to the record, or removed.
-ghost use Rattle.std.specs.Prelude.{◌≡◌, ◌≤◌, length, take};
-ghost use Rattle.integers.specs.Limits.{TASKS};
-ghost use Rattle.records.specs.Records.{record_of};
-ghost use Rattle.task_changes.specs.Lists.{placed, without};
-ghost use Rattle.task_changes.specs.Changes.{add_number, remove_number, TaskAdded, TaskRemoved};
+ghost use Rattle.std.specs.Prelude.{◌≡◌, ◌+◌, ◌<◌, ◌≤◌};
+ghost use Rattle.integers.specs.Limits.{TASKS, DURATIONS};
+ghost use Rattle.integers.specs.Refused.{number_in};
+ghost use Rattle.records.specs.Records.{Lawful, duration_for};
+ghost use Rattle.task_changes.specs.Changes.{added, removed, add_number, remove_number, TaskAdded, TaskRemoved};
 
 use integers::limits::{DURATIONS, TASKS};
-use integers::refused;
-use records::record::{DisjunctivePropagator, lawful};
+use integers::refused::Refusal;
+use records::record::{DisjunctivePropagator, duration_of, lawful};
 
-#[derive(Clone, Copy)]
-pub enum Change {
-    Made,
-    Refused(u32),
-}
-
+// The record after a change, or as it was beside why the change is refused. `TaskAdded` and `TaskRemoved` promise both, so the answer does not hold the record.
 #[derive(Clone, Copy)]
 pub struct Changed {
     pub record: DisjunctivePropagator,
-    pub answer: Change,
+    pub answer: Result<(), Refusal>,
 }
 
-// The number that refuses an added task, or 0: 20, 1, 2, 5.
-fn add_refusal(n: usize, durations: &[u32; TASKS], total: u32, duration: i32) -> u32
-    ensures { result ≡ add_number (record_of n durations.now total) duration }
+// Why an added task is refused. The stored total of a lawful record is within the limit.
+fn add_refusal(record: &DisjunctivePropagator, duration: i32) -> Result<(), Refusal>
+    ensures { number_in result ≡ add_number «record».now duration }
 {
-    if !lawful(n, durations, total) {
-        return refused::RECORD;
+    if !lawful(record) {
+        return Err(Refusal::Record);
     }
-    if n >= TASKS {
-        return refused::TASK_COUNT;
+    if record.count >= TASKS {
+        return Err(Refusal::TaskCount);
     }
-    if !integers::numbers::at_most(1, duration) {
-        return refused::DURATION;
+    if duration < 1 {
+        return Err(Refusal::Duration);
     }
-    let more = integers::numbers::nat_of(duration);
-    if DURATIONS - total < more {
-        return refused::DURATION_SUM;
+    if DURATIONS - record.total < duration_of(duration) {
+        return Err(Refusal::DurationSum);
     }
-    0
+    Ok(())
 }
 
-// The record with one task more, which takes number n.
+// A lawful record with one task more, which takes number n.
+fn with_task(record: &DisjunctivePropagator, duration: i32) -> DisjunctivePropagator
+    requires lawful { Lawful «record».now }
+    requires room { «record».now.count < TASKS }
+    requires fits { «record».now.total + duration_for duration ≤ DURATIONS }
+    ensures { result ≡ added «record».now (duration_for duration) }
+{
+    let n = record.count;
+    let more = duration_of(duration);
+    let mut durations = record.durations;
+    durations[n] = more;
+    DisjunctivePropagator {
+        count: n + 1,
+        durations,
+        total: record.total + more,
+    }
+}
+
+// The record with one task more, or as it was where the task is refused.
 pub fn add(record: DisjunctivePropagator, duration: i32) -> Changed
     ensures { TaskAdded «record» duration result }
 {
-    let number = add_refusal(record.count, &record.durations, record.total, duration);
-    if number != 0 {
-        return Changed {
-            record,
-            answer: Change::Refused(number),
-        };
+    let answer = add_refusal(&record, duration);
+    if answer.is_err() {
+        return Changed { record, answer };
     }
-    let n = record.count;
-    let more = integers::numbers::nat_of(duration);
-    let mut durations = record.durations;
-    durations[n] = more;
-    let sum = record.total + more;
     Changed {
-        record: DisjunctivePropagator {
-            count: n + 1,
-            durations,
-            total: sum,
-        },
-        answer: Change::Made,
+        record: with_task(&record, duration),
+        answer,
     }
 }
 
-// The durations of the first n tasks without task t's.
-fn without_task(durations: &[u32; TASKS], n: usize, t: usize) -> [u32; TASKS]
-    requires { (n ≤ TASKS) × (length durations.now ≡ TASKS) }
-    ensures { result ≡ placed (without (take n durations.now) t) }
+// Why a removal is refused.
+fn remove_refusal(record: &DisjunctivePropagator, task: usize) -> Result<(), Refusal>
+    ensures { number_in result ≡ remove_number «record».now task }
 {
-    let mut out = [0u32; TASKS];
-    let mut j = 0;
-    let mut i = 0;
-    while i < n {
-        if i != t {
-            out[j] = durations[i];
-            j += 1;
-        }
-        i += 1;
+    if !lawful(record) {
+        return Err(Refusal::Record);
     }
-    out
+    if task >= record.count {
+        return Err(Refusal::Removed);
+    }
+    if record.count < 2 {
+        return Err(Refusal::TaskCount);
+    }
+    Ok(())
 }
 
-// The number that refuses a removal, or 0: 20, 12, 1.
-fn remove_refusal(n: usize, durations: &[u32; TASKS], total: u32, task: usize) -> u32
-    ensures { result ≡ remove_number (record_of n durations.now total) task }
+// A lawful record without a task: the numbers above it are one lower, and the last place is no task's.
+fn without_task(record: &DisjunctivePropagator, task: usize) -> DisjunctivePropagator
+    requires lawful { Lawful «record».now }
+    requires there { task < «record».now.count }
+    ensures { result ≡ removed «record».now task }
 {
-    if !lawful(n, durations, total) {
-        return refused::RECORD;
+    let n = record.count;
+    let less = record.durations[task];
+    let mut durations = record.durations;
+    durations.copy_within(task + 1..n, task);
+    durations[n - 1] = 0;
+    DisjunctivePropagator {
+        count: n - 1,
+        durations,
+        total: record.total - less,
     }
-    if task >= n {
-        return refused::REMOVED;
-    }
-    if n < 2 {
-        return refused::TASK_COUNT;
-    }
-    0
 }
 
-// The record without a task: the numbers above it are one lower.
+// The record without the task, or as it was where the removal is refused.
 pub fn remove(record: DisjunctivePropagator, task: usize) -> Changed
     ensures { TaskRemoved «record» task result }
 {
-    let number = remove_refusal(record.count, &record.durations, record.total, task);
-    if number != 0 {
-        return Changed {
-            record,
-            answer: Change::Refused(number),
-        };
+    let answer = remove_refusal(&record, task);
+    if answer.is_err() {
+        return Changed { record, answer };
     }
-    let n = record.count;
-    let less = record.durations[task];
-    let durations = without_task(&record.durations, n, task);
-    let rest = record.total - less;
     Changed {
-        record: DisjunctivePropagator {
-            count: n - 1,
-            durations,
-            total: rest,
-        },
-        answer: Change::Made,
+        record: without_task(&record, task),
+        answer,
     }
 }

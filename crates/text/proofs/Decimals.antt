@@ -1,16 +1,16 @@
--- The digits of a number: one by one, and how many; and a whole number's text from its moment.
+-- The digits of a number: one by one, and how many; and a whole number's text from its magnitude.
 use mathlib.Core.Path.{◌≡◌, refl, sym, ap, ◌∙◌}
 use mathlib.Core.List.{List, [], ◌∷◌, ◌++◌}
-use Prim.Native.Nat.{ℕ, zero, suc, ◌+◌, ◌-◌, ◌/◌, ◌%◌, ◌^◌, ◌≤◌, ◌<◌}
+use Prim.Native.Nat.{ℕ, zero, suc, ◌+◌, ◌/◌, ◌%◌, ◌^◌, ◌≤◌, ◌<◌}
 use native.Mathlib.Omega.{arith}
 use native.Mathlib.Decide.{dec_lt}
 use native.Mathlib.Nat.{pow-suc}
-use lib.IntN.{ℤ, pos, negsuc}
+use lib.IntN.{ℤ, pos, negsuc, nat_abs}
+use lib.Signed.{lt_z}
+use Rattle.integers.proofs.Ints.{ints, up, dn}
+use mathlib.Core.Bool.{true, false}
 use lib.ListN.{length, length-append}
-use mir.Syntax.{w32}
-use mir.Val.{SFits}
 use borrow.Author.Tests.{lt-ltb, le-ltb}
-use Rattle.integers.specs.Moments.{moment, zero_at}
 use Rattle.text.specs.DecimalText.{figures, natural, decimal}
 
 -- ---- the digits one by one, and how many
@@ -52,13 +52,13 @@ natural_fits (suc k) n h = elim (dec_lt n 10) [
   | no q ↦ (let e = pow-suc 10 (suc k) in let r = natural_fits k (n / 10) (omega arith) in omega (arith, natural_last n (omega arith)))
 ]
 
--- ---- a whole number's text from its moment
-pub decimal_above : (z : ℤ) → zero_at ≤ moment zero_at z → decimal z ≡ natural (moment zero_at z - zero_at)
+-- ---- a whole number's text from its magnitude
+pub decimal_natural : (z : ℤ) → lt_z z (pos 0) ≡ false → decimal z ≡ natural (nat_abs z)
 unfolding decimal
-decimal_above (pos n) h = ap natural (omega arith)
-decimal_above (negsuc n) h = absurd (omega arith)
+decimal_natural (pos n) h = refl
+decimal_natural (negsuc n) h = cc
 
-pub decimal_below : (z : ℤ) → SFits w32 z → moment zero_at z < zero_at → decimal z ≡ 45 ∷ natural (zero_at - moment zero_at z)
-unfolding decimal
-decimal_below (pos n) f h = absurd (omega arith)
-decimal_below (negsuc n) f h = ap (λ (k : ℕ). 45 ∷ natural k) (omega (arith, f.sfits))
+pub decimal_negative : (z : ℤ) → lt_z z (pos 0) ≡ true → decimal z ≡ 45 ∷ natural (nat_abs z)
+unfolding decimal up dn
+decimal_negative (pos n) h = absurd (omega ints)
+decimal_negative (negsuc n) h = refl

@@ -1,4 +1,3 @@
-pub mod Folds
 pub mod Bytes
 pub mod ScannerSteps
 pub mod ReadWords

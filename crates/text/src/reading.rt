@@ -67,13 +67,11 @@ pub struct Scanner {
 }
 
 // White space is a space, a tab, a line feed, a vertical tab, a form feed or a carriage return.
+#[tactic(auto, unfolding(crate::specs::Numbers::space))]
 pub fn is_space(byte: u8) -> bool
     ensures { result ≡ space byte }
 {
-    if byte == b' ' {
-        return true;
-    }
-    9 <= byte && byte <= 13
+    matches!(byte, b' ' | b'\t'..=b'\r')
 }
 
 // A byte after a magnitude. A tenth of BEYOND decides whether the new magnitude passes it, so that nothing overflows.
@@ -244,10 +242,8 @@ impl Scanner {
         ensures { result ≡ foldl step_of self bytes.now }
     {
         let mut scanner = self;
-        let mut i = 0;
-        while i < bytes.len() {
-            scanner = scanner.step(bytes[i]);
-            i += 1;
+        for byte in bytes {
+            scanner = scanner.step(*byte);
         }
         scanner
     }

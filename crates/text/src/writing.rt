@@ -1,24 +1,16 @@
-// Text put together in a buffer: each function puts bytes at a place and answers the place after them.
+// Text put together in a buffer: each function puts bytes at a place and answers the place after them. The caller shows that there is room, so none of them can
+// fail, as a writer of `std::fmt` could.
 ghost use Rattle.std.specs.Prelude.{◌+◌, ◌≤◌, length};
 ghost use Rattle.text.specs.DecimalText.{natural, decimal, Puts};
-
-use integers::limits;
-use integers::moments::moment_of;
-
-// The moment of 0.
-const ZERO_AT: usize = limits::ZERO_AT as usize;
 
 // The bytes of a slice.
 pub fn put_bytes(out: &mut [u8], at: usize, bytes: &[u8]) -> usize
     requires { at + length bytes.now ≤ length out.old }
     ensures { Puts out.old out.new at bytes.now result }
 {
-    let mut i = 0;
-    while i < bytes.len() {
-        out[at + i] = bytes[i];
-        i += 1;
-    }
-    at + i
+    let next = at + bytes.len();
+    out[at..next].copy_from_slice(bytes);
+    next
 }
 
 // The digits of n: those of a tenth of n go first, and then the last one.
@@ -44,16 +36,16 @@ pub fn put_count(out: &mut [u8], at: usize, n: usize) -> usize
     put_digits(out, at, n)
 }
 
-// A whole number; the magnitude is taken from its moment, so that the least i32 has one too.
+// A whole number.
 pub fn put_number(out: &mut [u8], at: usize, x: i32) -> usize
     requires { at + 11 ≤ length out.old }
     ensures text { Puts out.old out.new at (decimal x) result }
     ensures within { result ≤ at + 11 }
 {
-    let moment = moment_of(x) as usize;
-    if ZERO_AT <= moment {
-        return put_digits(out, at, moment - ZERO_AT);
+    let magnitude = x.unsigned_abs() as usize;
+    if x < 0 {
+        out[at] = b'-';
+        return put_digits(out, at + 1, magnitude);
     }
-    out[at] = b'-';
-    put_digits(out, at + 1, ZERO_AT - moment)
+    put_digits(out, at, magnitude)
 }

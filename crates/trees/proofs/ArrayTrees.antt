@@ -6,13 +6,13 @@ use native.Mathlib.Decide.{ℕ_discrete}
 use borrow.Author.Rules.{rules}
 use borrow.Author.Tests.{eq-eqb, ne_eqb}
 use Rattle.scheduling.proofs.Sets.{total_suc}
-use Rattle.integers.specs.Limits.{INNER, NODES}
+use Rattle.integers.specs.Limits.{INNER}
 use Rattle.scheduling.specs.Scheduling.{total}
-use Rattle.trees.specs.NodeBounds.{Fits}
-use Rattle.trees.proofs.Joins.{Additive}
+use Rattle.trees.specs.NodeBounds.{Additive, Fits}
 use Rattle.trees.specs.Shapes.{width, node_over}
 use Rattle.trees.specs.Arrays.{leftmost, HasHeight, changed, leaves_of, TreeOf}
 use Rattle.trees.specs.Bounds.{Bounded, NeedsUpheap, CanPut}
+use Rattle.trees.specs.Puts.{Joinable}
 use Rattle.trees.proofs.Heights.{once, twice, leftmost_leaf, leftmost_left, leftmost_right, root_height, root_first, inner_height, left_height, right_height, height_of}
 
 -- one value changed
@@ -132,13 +132,6 @@ module _ {A : Type 0} {size : A → ℕ} {Fair : A → Type 0} {join : A → A �
   pub whole : {Right : ℕ → Type 0} {m : ℕ} {at₀ at : ℕ → A} → During Right m at₀ at → ((j : ℕ) → Right j) → TreeOf join m (leaves_of m at₀) at
   whole c all = record { joins = λ i q. c.joins i q (all i); leaves = λ k. ap (λ (f : ℕ → A). f k) c.leaves }
 
-  -- A turn of the loop, at node p: the children's numbers can be added.
-  pub record Turn (m : ℕ) (at : ℕ → A) (p : ℕ) : Type 0 where
-    pub inner : p < m
-    pub room : m ≤ INNER
-    pub left : Fits size Fair (at (2 * p + 1))
-    pub right : Fits size Fair (at (2 * p + 2))
-
   -- all nodes after p are right
   module _ {Right : ℕ → Type 0} {m : ℕ} {at₀ at : ℕ → A} {p : ℕ} (c : During Right m at₀ at) (inner : p < m) (after : (j : ℕ) → p < j → Right j) where
     child_fits : (k : ℕ) → p < k → k ≤ 2 * m → Fits size Fair (at k)
@@ -147,8 +140,9 @@ module _ {A : Type 0} {size : A → ℕ} {Fair : A → Type 0} {join : A → A �
         rw (over_is join m at (λ h j. p < j) (λ h j s q. (c.joins j (inner_height s) (after j q), omega arith, omega arith)) s.0 k s.1 q)
         (over_fits (leaves_of m at) c.bounded s.0 (leftmost s.0 k - m))
 
-    turn_at : Turn m at p
-    turn_at = record { inner = inner; room = c.room; left = child_fits (2 * p + 1) (omega arith) (omega arith); right = child_fits (2 * p + 2) (omega arith) (omega arith) }
+    -- the loop's turn at node p: the children's numbers can be added
+    joinable : Joinable size Fair at p
+    joinable = record { inner = omega (arith, c.room); left = child_fits (2 * p + 1) (omega arith) (omega arith); right = child_fits (2 * p + 2) (omega arith) (omega arith) }
 
     abbrev n : A
     n = join (at (2 * p + 1)) (at (2 * p + 2))
@@ -173,21 +167,6 @@ module _ {A : Type 0} {size : A → ℕ} {Fair : A → Type 0} {join : A → A �
         same : leaves_of m (changed at p n) ≡ leaves_of m at
         same = changed_inner m at p n inner
 
-  -- the turn's node and its children are nodes
-  module _ {m : ℕ} {at : ℕ → A} {p : ℕ} (t : Turn m at p) where
-    pub node_small : p < NODES
-    node_small = omega (arith, t.inner, t.room)
-
-    pub left_small : {l : ℕ} → l ≡ 2 * p + 1 → l < NODES
-    left_small is_left = omega (arith, t.inner, t.room)
-
-    pub right_small : {r : ℕ} → r ≡ 2 * p + 2 → r < NODES
-    right_small is_right = omega (arith, t.inner, t.room)
-
-  -- what is written is the join of the children
-  pub join_is : (at : ℕ → A) (p : ℕ) {l r : ℕ} {x y n : A} → l ≡ 2 * p + 1 → r ≡ 2 * p + 2 → x ≡ at l → y ≡ at r → n ≡ join x y → n ≡ join (at (2 * p + 1)) (at (2 * p + 2))
-  join_is at p is_left is_right ex ey en = en ∙ ap₂ join (ex ∙ ap at is_left) (ey ∙ ap at is_right)
-
   -- Upheap is at node i, whose parent alone is not yet right.
   pub record DuringUpheap (m : ℕ) (at₀ at : ℕ → A) (i : ℕ) : Type 0 where
     pub during : During (λ j. (i ≡ 2 * j + 1 → ⊥) × (i ≡ 2 * j + 2 → ⊥)) m at₀ at
@@ -203,18 +182,15 @@ module _ {A : Type 0} {size : A → ℕ} {Fair : A → Type 0} {join : A → A �
   end c root = whole c.during (λ j. (λ z. omega arith, λ z. omega arith))
 
   module _ {m : ℕ} {at₀ at : ℕ → A} {i : ℕ} (c : DuringUpheap m at₀ at i) (q : i ≡ 0 → ⊥) {p : ℕ} (is_up : p ≡ (i - 1) / 2) where
-    pub upheap_turn : Turn m at p
-    upheap_turn = turn_at c.during (omega (arith, c.inside)) (λ j r. (λ z. omega arith, λ z. omega arith))
+    pub up_inner : p < m
+    up_inner = omega (arith, c.inside)
 
-    pub upheap_left : {l : ℕ} {x : A} → l ≡ 2 * p + 1 → x ≡ at l → Fits size Fair x
-    upheap_left is_left e = rw (e ∙ ap at is_left) upheap_turn.left
+    pub up_joinable : Joinable size Fair at p
+    up_joinable = joinable c.during up_inner (λ j r. (λ z. omega arith, λ z. omega arith))
 
-    pub upheap_right : {r : ℕ} {y : A} → r ≡ 2 * p + 2 → y ≡ at r → Fits size Fair y
-    upheap_right is_right e = rw (e ∙ ap at is_right) upheap_turn.right
-
-    pub next_is : {l r : ℕ} {x y n : A} → l ≡ 2 * p + 1 → r ≡ 2 * p + 2 → x ≡ at l → y ≡ at r → n ≡ join x y → {at' : ℕ → A} → at' ≡ changed at p n → DuringUpheap m at₀ at' p
-    next_is is_left is_right ex ey en e = rw (e ∙ ap (changed at p) (join_is at p is_left is_right ex ey en)) (record {
-      during = calculated c.during (omega (arith, c.inside)) (λ j r. (λ z. omega arith, λ z. omega arith))
+    pub next_is : {at' : ℕ → A} → at' ≡ changed at p (join (at (2 * p + 1)) (at (2 * p + 2))) → DuringUpheap m at₀ at' p
+    next_is e = rw e (record {
+      during = calculated c.during up_inner (λ j r. (λ z. omega arith, λ z. omega arith))
           (λ j. (p ≡ 2 * j + 1 → ⊥) × (p ≡ 2 * j + 2 → ⊥)) (λ j s. (λ ne. (λ z. ne (omega arith), λ z. ne (omega arith)), s.0, s.1));
       inside = omega (arith, c.inside);
     })
@@ -224,18 +200,12 @@ module _ {A : Type 0} {size : A → ℕ} {Fair : A → Type 0} {join : A → A �
     pub during : During (λ j. i ≤ j) m at₀ at
     pub inside : i ≤ m
 
-  module _ {m : ℕ} {at₀ at : ℕ → A} {i : ℕ} (c : DuringRebuild m at₀ at i) (q : i ≡ 0 → ⊥) where
-    pub rebuild_turn : Turn m at (i - 1)
-    rebuild_turn = turn_at c.during (omega (arith, c.inside)) (λ j r. omega arith)
+  module _ {m : ℕ} {at₀ at : ℕ → A} {i : ℕ} (c : DuringRebuild m at₀ at i) (q : 0 < i) where
+    pub down_joinable : Joinable size Fair at (i - 1)
+    down_joinable = joinable c.during (omega (arith, c.inside)) (λ j r. omega arith)
 
-    pub rebuild_left : {l : ℕ} {x : A} → l ≡ 2 * (i - 1) + 1 → x ≡ at l → Fits size Fair x
-    rebuild_left is_left e = rw (e ∙ ap at is_left) rebuild_turn.left
-
-    pub rebuild_right : {r : ℕ} {y : A} → r ≡ 2 * (i - 1) + 2 → y ≡ at r → Fits size Fair y
-    rebuild_right is_right e = rw (e ∙ ap at is_right) rebuild_turn.right
-
-    pub goes_on : {l r : ℕ} {x y n : A} → l ≡ 2 * (i - 1) + 1 → r ≡ 2 * (i - 1) + 2 → x ≡ at l → y ≡ at r → n ≡ join x y → {at' : ℕ → A} → at' ≡ changed at (i - 1) n → DuringRebuild m at₀ at' (i - 1)
-    goes_on is_left is_right ex ey en e = rw (e ∙ ap (changed at (i - 1)) (join_is at (i - 1) is_left is_right ex ey en)) (record {
+    pub goes_on : {at' : ℕ → A} → at' ≡ changed at (i - 1) (join (at (2 * (i - 1) + 1)) (at (2 * (i - 1) + 2))) → DuringRebuild m at₀ at' (i - 1)
+    goes_on e = rw e (record {
       during = calculated c.during (omega (arith, c.inside)) (λ j r. omega arith) (λ j. i - 1 ≤ j) (λ j s. (λ ne. omega arith, λ z. omega arith, λ z. omega arith));
       inside = omega (arith, c.inside);
     })
@@ -255,8 +225,8 @@ needs_upheap {join = join} {m} {at} {at'} {place} {n} t e = rw e (record {
 })
 
 -- what is left to show, at any type of nodes: where a loop calculates the ancestors, or all inner nodes, and where a leaf is put
-pub ruleset upheaps = (rules, start, upheap_turn, node_small, left_small, right_small, upheap_left, upheap_right, next_is, end)
+pub ruleset upheaps = (rules, start, up_joinable, next_is, end)
 
-pub ruleset rebuilds = (rules, rebuild_turn, node_small, left_small, right_small, rebuild_left, rebuild_right, goes_on)
+pub ruleset rebuilds = (rules, down_joinable, goes_on)
 
 pub ruleset puts = (rules, needs_upheap, put_tree)

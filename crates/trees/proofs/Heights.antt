@@ -1,9 +1,9 @@
 -- Heights and positions in a complete binary tree.
 use mathlib.Core.Path.{◌≡◌, refl, sym, ap, ◌∙◌}
 use mathlib.Core.Logic.{◌⊎◌, inl, inr}
-use Prim.Native.Nat.{ℕ, zero, suc, ◌+◌, ◌*◌, ◌-◌, ◌/◌, ◌≤◌, ◌<◌}
+use Prim.Native.Nat.{ℕ, zero, suc, ◌+◌, ◌*◌, ◌-◌, ◌/◌, ◌^◌, ◌≤◌, ◌<◌, max}
 use native.Mathlib.Omega.{arith}
-use native.Mathlib.Numerals.{add-one}
+use native.Mathlib.Nat.{two-pow-succ}
 use native.Mathlib.Decide.{dec_lt, ℕ_discrete}
 use lib.Dec.{ltb}
 use borrow.Author.Tests.{ltb-true, ltb-false}
@@ -35,15 +35,6 @@ unfolding height_from
 height_reached n zero h q = refl
 height_reached n (suc f) h q = elim (bool (ltb (width h) n)) [ inl y ↦ absurd (omega (arith, ltb-true (width h) n y)) | inr y ↦ rw (y, height_from) ]
 
--- one turn of the loop that doubles the leaves
-pub height_step : (n h : ℕ) → width h < n → h < n → height_from n (n - (h + 1)) (h + 1) ≡ height_from n (n - h) h
-height_step n h q r =
-    let z : n - h ≡ suc (n - (h + 1)) = omega arith in
-    rw (z, add-one h) (sym (height_on n (n - suc h) h q))
-
-pub width_step : (h : ℕ) → width (h + 1) ≡ 2 * width h
-width_step h = rw (add-one h) (omega (arith, twice h))
-
 height_zero : (n h : ℕ) → height_from n 0 h ≡ h
 unfolding height_from
 height_zero n h = refl
@@ -62,6 +53,47 @@ level_more : (h m : ℕ) → width h < width m → width (suc h) ≤ width m
 level_more h zero q = absurd (omega (arith, once, width_some h))
 level_more zero (suc m) q = omega (arith, once, twice 0, twice m, width_some m)
 level_more (suc h) (suc m) q = omega (arith, twice (suc h), twice h, twice m, level_more h m (omega (arith, twice h, twice m)))
+
+width_power : (h : ℕ) → 2 ^ h ≡ width h
+width_power zero = sym once
+width_power (suc h) = omega (arith, two-pow-succ h, width_power h, twice h)
+
+-- a higher tree is at least twice as wide
+width_less : (h k : ℕ) → h < k → 2 * width h ≤ width k
+width_less h zero q = absurd (omega arith)
+width_less h (suc k) q = elim (dec_lt h k)
+    [ yes r ↦ omega (arith, width_less h k r, twice k) | no r ↦ let z : h ≡ k = omega arith in rw z (omega (arith, twice k)) ]
+
+wide : (h : ℕ) → h < width h
+wide zero = omega (arith, once)
+wide (suc h) = omega (arith, wide h, twice h)
+
+-- the height at which a tree is wide enough, where no lower one is
+height_met : (n f h k : ℕ) → h ≤ k → k ≤ h + f → n ≤ width k → ((j : ℕ) → j < k → width j < n) → height_from n f h ≡ k
+height_met n zero h k q r wide_enough lower = height_zero n h ∙ omega arith
+height_met n (suc f) h k q r wide_enough lower = elim (dec_lt h k) [
+  | yes t ↦ height_on n f h (lower h t) ∙ height_met n f (suc h) k (omega arith) (omega arith) wide_enough lower
+  | no t ↦ let z : h ≡ k = omega arith in height_reached n (suc f) h (rw z wide_enough) ∙ z
+]
+
+-- the least power of two that is n or more has that many leaves, and its logarithm is the height
+pub size_is : {n w h : ℕ} → ((k : ℕ) × (w ≡ 2 ^ k)) → n ≤ w → w / 2 < max 1 n → 2 ^ h ≤ w → w < 2 * 2 ^ h → (h ≡ height_for n) × (w ≡ width h)
+size_is {n} {w} {h} (k, e) leaves half from below = (same ∙ sym (height_met n n 0 k (omega arith) (omega (arith, few)) (omega (arith, is)) lower), is ∙ ap width (sym same))
+  where
+    is : w ≡ width k
+    is = e ∙ width_power k
+
+    same : h ≡ k
+    same = elim (dec_lt h k) [
+      | yes q ↦ absurd (omega (arith, width_less h k q, is, width_power h))
+      | no q ↦ elim (dec_lt k h) [ yes r ↦ absurd (omega (arith, width_less k h r, is, width_power h, width_some k)) | no r ↦ omega arith ]
+    ]
+
+    lower : (j : ℕ) → j < k → width j < n
+    lower j q = omega (arith, width_less j k q, is, width_some j)
+
+    few : k ≤ n
+    few = elim (dec_lt 0 k) [ yes q ↦ omega (arith, lower (k - 1) (omega arith), wide (k - 1)) | no q ↦ omega arith ]
 
 -- six levels are enough for the leaves of the largest tree
 pub low : (h : ℕ) → width h ≤ INNER → width (suc h) ≤ INNER + 1

@@ -1,5 +1,4 @@
 pub mod Ects
-pub mod Joins
 pub mod Descents
 pub mod Heights
 pub mod ArrayTrees

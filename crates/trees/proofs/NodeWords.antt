@@ -4,6 +4,7 @@ use mathlib.Core.Logic.{◌⊎◌, inl, inr}
 use mathlib.Core.List.{List, [], ◌∷◌}
 use Prim.Native.Nat.{ℕ, zero, suc, ◌+◌, ◌*◌, ◌≤◌, ◌<◌}
 use native.Mathlib.Decide.{dec_lt}
+use native.Mathlib.Nat.{mul-le-mul_left, mul-suc}
 use native.Mathlib.Numerals.{add-one}
 use native.Mathlib.Omega.{arith}
 use lib.ListN.{get_or, set, length, length-set, replicate}
@@ -29,6 +30,17 @@ sets_in [] l i j k e q h = absurd (omega arith)
 sets_in (v ∷ vs) l i j zero e q h = let z : j ≡ i = omega arith in rw z (sets_out vs (set l i v) (suc i) i (inl (omega arith)) ∙ get_or-set_same l i v 0 (omega arith))
 sets_in (v ∷ vs) l i j (suc k) e q h = sets_in vs (set l i v) (suc i) j k (omega arith) (omega arith) (omega (arith, length-set l i v))
 
+-- Words stored at the place of node i, of w words a node: they are there, and those of every other node stay.
+module _ {w : ℕ} (ws : List ℕ) (i : ℕ) (vs : List ℕ) (size : length vs ≡ w) where
+  own_word : (x k : ℕ) → x ≡ w * i + k → k < w → w * i + w ≤ length ws → get_or (sets ws (w * i) vs) x 0 ≡ get_or vs k 0
+  own_word x k e q h = sets_in vs ws (w * i) x k e (omega (arith, size)) (omega (arith, size))
+
+  other_word : (j x : ℕ) → (j ≡ i → ⊥) → w * j ≤ x → x < w * j + w → get_or (sets ws (w * i) vs) x 0 ≡ get_or ws x 0
+  other_word j x ne lo hi = sets_out vs ws (w * i) x (elim (dec_lt j i) [
+    | yes q ↦ let r : w * suc j ≤ w * i = mul-le-mul_left w (omega arith) in inl (omega (arith, mul-suc w j))
+    | no q ↦ let r : w * suc i ≤ w * j = mul-le-mul_left w (omega arith) in inr (omega (arith, mul-suc w i, size))
+  ])
+
 -- nodes of the same numbers
 pub same : (m n : Node) → m.ect ≡ n.ect → m.sum_of_processing_times ≡ n.sum_of_processing_times → m.ect_bar ≡ n.ect_bar
     → m.sum_of_processing_times_bar ≡ n.sum_of_processing_times_bar → m ≡ n
@@ -45,7 +57,7 @@ pub plain_stored : (ws : List ℕ) (i : ℕ) (n : plain.Node) → i < NODES → 
     → (plain_at (pair ws (2 * i) n.ect n.sum_of_processing_times) ≡ changed (plain_at ws) i n) × (length (pair ws (2 * i) n.ect n.sum_of_processing_times) ≡ THETAWORDS)
 plain_stored ws i n h l = rw (add-one (2 * i)) (
   changed_is (plain_at ws) (plain_at out) i n
-      (plain_same (plain_at out i) n (sets_in vs ws (2 * i) (2 * i) 0 (omega arith) (omega arith) (omega arith)) (sets_in vs ws (2 * i) (2 * i + 1) 1 (omega arith) (omega arith) (omega arith)))
+      (plain_same (plain_at out i) n (own (2 * i) 0 (omega arith) (omega arith)) (own (2 * i + 1) 1 (omega arith) (omega arith)))
       (λ j ne. plain_same (plain_at out j) (plain_at ws j) (other j (2 * j) ne (omega arith) (omega arith)) (other j (2 * j + 1) ne (omega arith) (omega arith))),
   length-sets ws (2 * i) vs ∙ l,
 )
@@ -56,8 +68,11 @@ plain_stored ws i n h l = rw (add-one (2 * i)) (
     out : List ℕ
     out = sets ws (2 * i) vs
 
-    other : (j k : ℕ) → (j ≡ i → ⊥) → 2 * j ≤ k → k < 2 * j + 2 → get_or out k 0 ≡ get_or ws k 0
-    other j k ne lo hi = sets_out vs ws (2 * i) k (elim (dec_lt j i) [ yes q ↦ inl (omega arith) | no q ↦ inr (omega arith) ])
+    own : (x k : ℕ) → x ≡ 2 * i + k → k < 2 → get_or out x 0 ≡ get_or vs k 0
+    own x k e q = own_word ws i vs refl x k e q (omega arith)
+
+    other : (j x : ℕ) → (j ≡ i → ⊥) → 2 * j ≤ x → x < 2 * j + 2 → get_or out x 0 ≡ get_or ws x 0
+    other = other_word ws i vs refl
 
 -- a node of the theta-lambda tree stored
 abbrev pub quad : List ℕ → ℕ → Node → List ℕ
@@ -66,8 +81,8 @@ quad ws k n = set (set (pair ws k n.ect n.sum_of_processing_times) (k + 2) n.ect
 pub stored : (ws : List ℕ) (i : ℕ) (n : Node) → i < NODES → length ws ≡ TREEWORDS → (node_at (quad ws (4 * i) n) ≡ changed (node_at ws) i n) × (length (quad ws (4 * i) n) ≡ TREEWORDS)
 stored ws i n h l = rw is (
   changed_is (node_at ws) (node_at out) i n
-      (same (node_at out i) n (here (4 * i) 0 (omega arith) (omega arith)) (here (4 * i + 1) 1 (omega arith) (omega arith)) (here (4 * i + 2) 2 (omega arith) (omega arith))
-      (here (4 * i + 3) 3 (omega arith) (omega arith)))
+      (same (node_at out i) n (own (4 * i) 0 (omega arith) (omega arith)) (own (4 * i + 1) 1 (omega arith) (omega arith)) (own (4 * i + 2) 2 (omega arith) (omega arith))
+      (own (4 * i + 3) 3 (omega arith) (omega arith)))
       (λ j ne. same (node_at out j) (node_at ws j) (other j (4 * j) ne (omega arith) (omega arith)) (other j (4 * j + 1) ne (omega arith) (omega arith))
       (other j (4 * j + 2) ne (omega arith) (omega arith)) (other j (4 * j + 3) ne (omega arith) (omega arith))),
   length-sets ws (4 * i) vs ∙ l,
@@ -85,11 +100,11 @@ stored ws i n h l = rw is (
         let three : 4 * i + 3 ≡ suc (suc (suc (4 * i))) = omega arith in
         rw (add-one (4 * i), two, three)
 
-    here : (j k : ℕ) → j ≡ 4 * i + k → k < 4 → get_or out j 0 ≡ get_or vs k 0
-    here j k e q = sets_in vs ws (4 * i) j k e q (omega arith)
+    own : (x k : ℕ) → x ≡ 4 * i + k → k < 4 → get_or out x 0 ≡ get_or vs k 0
+    own x k e q = own_word ws i vs refl x k e q (omega arith)
 
-    other : (j k : ℕ) → (j ≡ i → ⊥) → 4 * j ≤ k → k < 4 * j + 4 → get_or out k 0 ≡ get_or ws k 0
-    other j k ne lo hi = sets_out vs ws (4 * i) k (elim (dec_lt j i) [ yes q ↦ inl (omega arith) | no q ↦ inr (omega arith) ])
+    other : (j x : ℕ) → (j ≡ i → ⊥) → 4 * j ≤ x → x < 4 * j + 4 → get_or out x 0 ≡ get_or ws x 0
+    other = other_word ws i vs refl
 
 -- and its bars alone, where the words have its ect and sum already
 pub bars_stored : (ws : List ℕ) (i : ℕ) (n : Node) → i < NODES → length ws ≡ TREEWORDS → white_part (node_at ws i) ≡ white_part n

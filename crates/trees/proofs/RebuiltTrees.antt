@@ -9,7 +9,7 @@ use Rattle.integers.specs.Limits.{TREEWORDS}
 use Rattle.scheduling.specs.Scheduling.{natural, Tasks}
 use Rattle.trees.specs.declared.theta_lambda_node.Node.{Node}
 use Rattle.trees.specs.Nodes.{join_of}
-use Rattle.trees.proofs.Joins.{additive}
+use Rattle.trees.specs.NodeLaws.{additive}
 use Rattle.trees.specs.Shapes.{height_for}
 use Rattle.trees.specs.Arrays.{changed, leaves_of, TreeOf}
 use Rattle.trees.specs.Words.{node_at}

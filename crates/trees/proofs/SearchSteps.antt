@@ -23,9 +23,9 @@ use Rattle.trees.specs.Nodes.{join_of}
 use Rattle.trees.specs.Descents.{gray}
 use Rattle.trees.specs.SearchSteps.{AroundFits, step_at_p, step_at_ect}
 use Rattle.trees.proofs.Descents.{By, sums, ects, as_ect, step_at, leaf_step, Fact, fact}
-use Rattle.trees.proofs.Joins.{additive}
+use Rattle.trees.specs.NodeLaws.{additive}
 use Rattle.trees.specs.declared.disjunctive_task.LocalId.{LocalId}
-use Rattle.trees.specs.declared.theta_lambda_tree.Responsible.TheVariants as responsible
+use Rattle.std.specs.Prelude.{Some}
 use Rattle.trees.specs.Shapes.{width, node_over}
 use Rattle.trees.specs.Arrays.{leftmost, HasHeight, leaves_of}
 use Rattle.trees.specs.Searches.{step_p, step_ect, search_p, search_ect}
@@ -258,5 +258,5 @@ module _ {m r : ℕ} (few : m ≤ INNER) where
   some_at (some x) small is ne = let z : x ≡ r - m = omega arith in (omega arith, omega (arith, small x refl), ap some z)
 
 -- the task of the answer
-pub task_is : (tasks : List ℕ) (o : Option ℕ) (x : ℕ) (id : LocalId) → o ≡ some x → id.0 ≡ get_or tasks x 0 → responsible.Task id ≡ responsible_of tasks o
-task_is tasks o x id q e = rw q (ap responsible.Task (λ t. record { 0 = e t }))
+pub task_is : (tasks : List ℕ) (o : Option ℕ) (x : ℕ) (id : LocalId) → o ≡ some x → id.0 ≡ get_or tasks x 0 → Some id ≡ responsible_of tasks o
+task_is tasks o x id q e = rw q (ap Some (λ t. record { 0 = e t }))

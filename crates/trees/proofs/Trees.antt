@@ -17,8 +17,9 @@ use Rattle.trees.proofs.Descents.{ects}
 use Rattle.trees.specs.Shapes.{width, height_for, node_over}
 use Rattle.trees.specs.Arrays.{leftmost, changed, leaves_of, TreeOf}
 use Rattle.trees.specs.Words.{node_at, plain_at}
+use Rattle.trees.specs.NodeBounds.{Fair, size, PlainFair, plain_size}
 use Rattle.trees.specs.Bounds.{Bounded, CanPut}
-use Rattle.trees.specs.Puts.{Puttable, Put, white_part, PlainPuttable, PlainPut}
+use Rattle.trees.specs.Puts.{Puttable, Put, white_part}
 use Rattle.trees.specs.Searches.{search_ect}
 use Rattle.trees.specs.ArraySearches.{Searchable, nowhere, found_at, white_in, theta_in}
 use Rattle.trees.specs.Leaves as leaves
@@ -98,11 +99,11 @@ module _ (J : Tasks natural) (est_order : List ℕ) where
 
 module _ {J : Tasks natural} {est_order : List ℕ} (lim : Limited J est_order) {ls : List Leaf} {inner : ℕ} {words : List ℕ} (t : IsTree J est_order ls inner words) where
   -- the leaf of a task may get a colour: gray by `add_to_lambda`, empty by `remove_from_theta` and `remove_from_lambda`
-  pub may_put : (k : ℕ) → k < J.count → (c : Leaf) {n : Node} → n ≡ leaf_node_is J est_order c k → Puttable inner words k n
+  pub may_put : (k : ℕ) → k < J.count → (c : Leaf) {n : Node} → n ≡ leaf_node_is J est_order c k → Puttable size Fair join_of node_at TREEWORDS inner words k n
   may_put k q c z = record { length = t.words_length; takes = takes (leaf_node_is J est_order) lim.count (bounded J est_order lim) ls t.tree t.complete t.colours k q c z }
 
   -- and then has it
-  pub was_put : (k : ℕ) → k < J.count → (c : Leaf) {n : Node} → n ≡ leaf_node_is J est_order c k → {words' : List ℕ} → Put inner words words' k n
+  pub was_put : (k : ℕ) → k < J.count → (c : Leaf) {n : Node} → n ≡ leaf_node_is J est_order c k → {words' : List ℕ} → Put join_of node_at TREEWORDS inner words words' k n
       → IsTree J est_order (set ls k c) inner words'
   was_put k q c z u = record {
     tree = put_gives (leaf_node_is J est_order) lim.count (bounded J est_order lim) ls t.tree t.complete t.colours k q c z u.tree;
@@ -160,12 +161,12 @@ module _ {J : Tasks natural} {est_order : List ℕ} (lim : Limited J est_order) 
 -- the theta tree ---------------------------------------------------------------------------------------------------------------
 
 module _ {J : Tasks natural} {est_order : List ℕ} (lim : Limited J est_order) {ls : List Leaf} {inner : ℕ} {words : List ℕ} (t : IsPlainTree J est_order ls inner words) where
-  pub may_put_plain : (k : ℕ) → k < J.count → (c : Leaf) {n : plain.Node} → n ≡ plain_node J est_order c k → PlainPuttable inner words k n
+  pub may_put_plain : (k : ℕ) → k < J.count → (c : Leaf) {n : plain.Node} → n ≡ plain_node J est_order c k → Puttable plain_size PlainFair plain_join_of plain_at THETAWORDS inner words k n
   may_put_plain k q c z =
       record { length = t.words_length; takes = takes (plain_node J est_order) lim.count (plain_bounded J est_order lim) ls t.tree t.complete t.colours k q c z }
 
   pub was_put_plain : (k : ℕ) → k < J.count → (c : Leaf) {n : plain.Node} → n ≡ plain_node J est_order c k → {words' : List ℕ}
-      → PlainPut inner words words' k n → IsPlainTree J est_order (set ls k c) inner words'
+      → Put plain_join_of plain_at THETAWORDS inner words words' k n → IsPlainTree J est_order (set ls k c) inner words'
   was_put_plain k q c z u = record {
     tree = put_gives (plain_node J est_order) lim.count (plain_bounded J est_order lim) ls t.tree t.complete t.colours k q c z u.tree;
     words_length = u.length;

@@ -10,8 +10,8 @@ use Rattle.trees.specs.NodeBounds.{Fair, size}
 use Rattle.trees.specs.Arrays.{changed}
 use Rattle.trees.specs.Bounds.{CanPut}
 use Rattle.trees.specs.Puts.{white_part, WhiteJoins, Liftable}
-use Rattle.trees.proofs.Joins.{additive}
-use Rattle.trees.proofs.ArrayTrees.{changed_here, changed_other, DuringUpheap, upheap_turn, node_small, next_is, start, end, puts}
+use Rattle.trees.specs.NodeLaws.{additive}
+use Rattle.trees.proofs.ArrayTrees.{changed_here, changed_other, DuringUpheap, up_inner, up_joinable, next_is, start, end, puts}
 
 pub join_white : (l r : Node) → white_part (join_of l r) ≡ plain_join_of (white_part l) (white_part r)
 unfolding join_of plain_join_of
@@ -35,22 +35,22 @@ leaf_bars {m} {at} {at'} {place} {n} t e same = bars_changed (m + place) n e sam
 -- and they do where an ancestor is calculated
 module _ {m : ℕ} {at₀ at : ℕ → Node} {i : ℕ} (c : DuringUpheap additive m at₀ at i) (q : i ≡ 0 → ⊥) where
   pub liftable : {n : Node} → n ≡ at i → Liftable at i n
-  liftable e = let t = upheap_turn additive c q refl in record { not_root = omega (arith, q); small = omega (arith, t.inner, t.room); is = e; left = t.left; right = t.right }
+  liftable e = let t = up_joinable additive c q refl in record { not_root = omega (arith, q); small = omega (arith, t.inner); is = e; left = t.left; right = t.right }
 
   module _ (w : WhiteJoins m at) {p : ℕ} (is_up : p ≡ (i - 1) / 2) {n : Node} (en : n ≡ join_of (at (2 * ((i - 1) / 2) + 1)) (at (2 * ((i - 1) / 2) + 2))) where
     pub white_stays : white_part (at p) ≡ white_part n
-    white_stays = rw (is_up, en) (w.joins ((i - 1) / 2) (upheap_turn additive c q refl).inner ∙ sym (join_white (at (2 * ((i - 1) / 2) + 1)) (at (2 * ((i - 1) / 2) + 2))))
+    white_stays = rw (is_up, en) (w.joins ((i - 1) / 2) (up_inner additive c q refl) ∙ sym (join_white (at (2 * ((i - 1) / 2) + 1)) (at (2 * ((i - 1) / 2) + 2))))
 
     pub next_white : {at' : ℕ → Node} → at' ≡ changed at p n → WhiteJoins m at'
     next_white e = bars_changed p n e white_stays w
 
     pub next_up : {at' : ℕ → Node} → at' ≡ changed at p n → DuringUpheap additive m at₀ at' p
-    next_up e = next_is additive c q is_up (omega arith) (omega arith) refl refl en e
+    next_up e = next_is additive c q is_up (e ∙ rw (en, is_up) refl)
 
 -- the ancestor that is stored is the node that is carried up next
 pub carried : (at : ℕ → Node) {at' : ℕ → Node} {p : ℕ} {n : Node} → at' ≡ changed at p n → n ≡ at' p
 carried at {at'} {p} {n} e = sym (ap (λ (f : ℕ → Node). f p) e ∙ changed_here at p n)
 
-pub ruleset bar_upheaps = (rules, start, upheap_turn, node_small, liftable, white_stays, next_white, next_up, carried, end)
+pub ruleset bar_upheaps = (rules, start, up_joinable, liftable, white_stays, next_white, next_up, carried, end)
 
 pub ruleset bar_puts = (puts, leaf_bars)

@@ -26,10 +26,6 @@ module _ (white : ℕ → Bool) (task : ℕ → ℕ) where
   unfolding theta_of
   theta_skip a d y = rw (y, theta_of)
 
--- one leaf more that is not white
-pub passed_more : (white : ℕ → Bool) (a x : ℕ) → ((y : ℕ) → a ≤ y → y < x → white y ≡ false) → white x ≡ false → (y : ℕ) → a ≤ y → y < x + 1 → white y ≡ false
-passed_more white a x before here y lo hi = elim (ℕ_discrete y x) [ yes z ↦ ap white z ∙ here | no z ↦ before y lo (omega arith) ]
-
 -- leaves that agree, and their tasks
 pub theta_same : (white white' : ℕ → Bool) (task task' : ℕ → ℕ) (a d : ℕ) → ((k : ℕ) → a ≤ k → k < a + d → (white k ≡ white' k) × (task k ≡ task' k))
     → theta_of white task a d ≡ theta_of white' task' a d

@@ -1,5 +1,6 @@
 -- The searches and the list of Theta as code has them: by an array of nodes, with positions and task numbers for answers.
-use Rattle.std.specs.Prelude.{Bool, true, false, not, List, ◌≡◌, ℕ, ◌+◌, ◌*◌, ◌≤◌, ◌<◌, eqb, leb, get_or}
+use Rattle.std.specs.Prelude.{Bool, true, false, not, List, ◌≡◌, ℕ, ◌+◌, ◌*◌, ◌≤◌, ◌<◌, eqb, leb, get_or, None, Some}
+use Rattle.std.specs.Prelude as code
 use Rattle.std.proofs.Math.Option.{Option, some, none}
 use Rattle.integers.specs.Limits.{NODES, INNER}
 use Rattle.trees.specs.declared.theta_lambda_node.Node.{Node}
@@ -7,8 +8,7 @@ use Rattle.trees.specs.declared.theta_lambda_node.Around.{Around}
 use Rattle.trees.specs.declared.theta_lambda_node.Around.TheVariants as around
 use Rattle.trees.specs.Nodes.{join_of}
 use Rattle.trees.specs.NodeBounds.{size, Fair}
-use Rattle.trees.specs.declared.theta_lambda_tree.Responsible.TheVariants as responsible
-use Rattle.trees.specs.declared.theta_lambda_tree.Responsible.{Responsible}
+use Rattle.trees.specs.declared.disjunctive_task.LocalId.{LocalId}
 use Rattle.trees.specs.Arrays.{leaves_of, TreeOf, HasHeight}
 use Rattle.trees.specs.Words.{node_at}
 use Rattle.trees.specs.Bounds.{Bounded}
@@ -28,9 +28,9 @@ found_at m none = nowhere
 found_at m (some x) = m + x
 
 -- and its task, by the task of each leaf
-abbrev pub responsible_of : List ℕ → Option ℕ → Responsible
-responsible_of tasks none = responsible.Nothing
-responsible_of tasks (some x) = responsible.Task (record { 0 = get_or tasks x 0 })
+abbrev pub responsible_of : List ℕ → Option ℕ → code.Option LocalId
+responsible_of tasks none = None
+responsible_of tasks (some x) = Some (record { 0 = get_or tasks x 0 })
 
 -- What a search from node i of height h requires of the array.
 pub record Searchable (m h i : ℕ) (at : ℕ → Node) : Type 0 where

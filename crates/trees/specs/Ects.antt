@@ -1,13 +1,12 @@
 -- The ect of a set of tasks as an answer: a moment, or none where the set has no task.
-use Rattle.std.specs.Prelude.{Bool, false, ℕ, zero, suc, max, ltb}
+use Rattle.std.specs.Prelude.{Bool, false, ℕ, zero, suc, max, ltb, None, Some}
+use Rattle.std.specs.Prelude as code
 use Rattle.std.proofs.Math.Option.{Option, some, none}
-use Rattle.trees.specs.declared.ect.Ect.{Ect}
-use Rattle.trees.specs.declared.ect.Ect.TheVariants.{NoTask, At}
 
--- the answer's moment
-abbrev pub moment_of : Ect → Option ℕ
-moment_of NoTask = none
-moment_of (At m) = some m
+-- the answer's moment: from the code's type to that of the definitions
+abbrev pub moment_of : code.Option ℕ → Option ℕ
+moment_of None = none
+moment_of (Some m) = some m
 
 -- the ect that a node's word codes: a task lasts 1 or more, so that 0 is no task's completion and codes none
 unfoldable pub decoded : ℕ → Option ℕ

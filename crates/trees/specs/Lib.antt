@@ -8,6 +8,7 @@ pub mod Leaves
 pub mod SearchExamples
 -- What the code's arrays and loops hold: no contract of an open call names these.
 pub mod NodeBounds
+pub mod NodeLaws
 pub mod SearchSteps
 pub mod Arrays
 pub mod Words

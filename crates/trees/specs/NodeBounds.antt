@@ -26,6 +26,11 @@ abbrev pub plain_size : plain.Node → ℕ
 plain_size n = n.sum_of_processing_times
 
 module _ {A : Type 0} (size : A → ℕ) (Fair : A → Type 0) where
+  -- A join keeps nodes fair, and is at most as large as its children together.
+  pub record Additive (join : A → A → A) : Type 0 where
+    pub adds : (l r : A) → Fair l → Fair r → size (join l r) ≤ size l + size r
+    pub keeps : (l r : A) → Fair l → Fair r → Fair (join l r)
+
   -- a node whose numbers can be added
   pub record Fits (n : A) : Type 0 where
     pub fair : Fair n

@@ -1,9 +1,9 @@
 -- What the operations of the theta-lambda tree require and ensure of its words: by the leaves that these hold, whatever the tasks, their order and colours.
-use Rattle.std.specs.Prelude.{◌≡◌, true, List, ℕ, ◌<◌, replicate, set}
+use Rattle.std.specs.Prelude.{◌≡◌, true, List, ℕ, ◌<◌, replicate, set, Option}
 use Rattle.scheduling.specs.Scheduling.{natural, Tasks}
 use Rattle.trees.specs.declared.disjunctive_task.DisjunctiveTask.{DisjunctiveTask}
 use Rattle.trees.specs.declared.theta_lambda_tree.ThetaLambdaTree.{ThetaLambdaTree}
-use Rattle.trees.specs.declared.theta_lambda_tree.Responsible.{Responsible}
+use Rattle.trees.specs.declared.disjunctive_task.LocalId.{LocalId}
 use Rattle.trees.specs.Shapes.{height_for}
 use Rattle.trees.specs.Arrays.{Sized}
 use Rattle.trees.specs.Leaves.{Leaf, empty, gray_at, start_at, duration_at, responsible}
@@ -41,7 +41,7 @@ abbrev pub Tall : {inner : ℕ} {words : List ℕ} → Held inner words → ℕ 
 Tall h height = height ≡ height_for h.J.count
 
 -- the answer of `responsible_ect_bar`, by the task of each leaf
-abbrev pub Responds : ℕ → ℕ → List ℕ → List ℕ → Responsible → Type 0
+abbrev pub Responds : ℕ → ℕ → List ℕ → List ℕ → Option LocalId → Type 0
 Responds inner height words tasks r = (h : Held inner words) → Tall h height → r ≡ responsible_of tasks (responsible h.J h.est_order h.leaves)
 
 -- The task at this place in the order starts at e at the earliest and lasts p.

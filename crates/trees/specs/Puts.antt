@@ -1,23 +1,30 @@
 -- What `put` and `lay` require and ensure of the words of a tree: one leaf changes, and after `put` every inner node is the join of its children again.
 use Rattle.std.specs.Prelude.{◌≡◌, List, ℕ, ◌+◌, ◌*◌, ◌-◌, ◌/◌, ◌≤◌, ◌<◌, length}
-use Rattle.integers.specs.Limits.{INNER, NODES, THETAWORDS, TREEWORDS}
+use Rattle.integers.specs.Limits.{INNER, NODES, TREEWORDS}
 use Rattle.trees.specs.declared.theta_lambda_node.Node.{Node}
 use Rattle.trees.specs.declared.theta_node.Node as plain
-use Rattle.trees.specs.Nodes.{join_of, plain_join_of}
-use Rattle.trees.specs.NodeBounds.{Fair, size, Fits, PlainFair, plain_size}
+use Rattle.trees.specs.Nodes.{plain_join_of}
+use Rattle.trees.specs.NodeBounds.{Fair, size, Fits}
 use Rattle.trees.specs.Arrays.{leaves_of, changed, TreeOf}
-use Rattle.trees.specs.Words.{node_at, plain_at}
+use Rattle.trees.specs.Words.{node_at}
 use Rattle.trees.specs.Bounds.{CanPut}
 
--- the leaf at `place` may become n
-pub record Puttable (inner : ℕ) (words : List ℕ) (place : ℕ) (n : Node) : Type 0 where
-  pub takes : CanPut size Fair join_of inner (node_at words) place n
-  pub length : length words ≡ TREEWORDS
+-- Node i has children, whose numbers can be added.
+pub record Joinable {A : Type 0} (size : A → ℕ) (Fair : A → Type 0) (at : ℕ → A) (i : ℕ) : Type 0 where
+  pub inner : i < INNER
+  pub left : Fits size Fair (at (2 * i + 1))
+  pub right : Fits size Fair (at (2 * i + 2))
+
+-- the leaf at `place` may become n, in an array of `long` words that has its nodes by `at`
+pub record Puttable {A : Type 0} (size : A → ℕ) (Fair : A → Type 0) (join : A → A → A) (at : List ℕ → ℕ → A)
+    (long inner : ℕ) (words : List ℕ) (place : ℕ) (n : A) : Type 0 where
+  pub takes : CanPut size Fair join inner (at words) place n
+  pub length : length words ≡ long
 
 -- the leaf at `place` became n
-pub record Put (inner : ℕ) (before after : List ℕ) (place : ℕ) (n : Node) : Type 0 where
-  pub tree : TreeOf join_of inner (changed (leaves_of inner (node_at before)) place n) (node_at after)
-  pub length : length after ≡ TREEWORDS
+pub record Put {A : Type 0} (join : A → A → A) (at : List ℕ → ℕ → A) (long inner : ℕ) (before after : List ℕ) (place : ℕ) (n : A) : Type 0 where
+  pub tree : TreeOf join inner (changed (leaves_of inner (at before)) place n) (at after)
+  pub length : length after ≡ long
 
 -- a node without its gray tasks
 abbrev pub white_part : Node → plain.Node
@@ -46,12 +53,3 @@ pub record Layable (inner : ℕ) (words : List ℕ) (place : ℕ) (n : Node) : T
 pub record Laid (inner : ℕ) (before after : List ℕ) (place : ℕ) (n : Node) : Type 0 where
   pub nodes : node_at after ≡ changed (node_at before) (inner + place) n
   pub length : length after ≡ TREEWORDS
-
--- `Puttable` and `Put` of a theta tree
-pub record PlainPuttable (inner : ℕ) (words : List ℕ) (place : ℕ) (n : plain.Node) : Type 0 where
-  pub takes : CanPut plain_size PlainFair plain_join_of inner (plain_at words) place n
-  pub length : length words ≡ THETAWORDS
-
-pub record PlainPut (inner : ℕ) (before after : List ℕ) (place : ℕ) (n : plain.Node) : Type 0 where
-  pub tree : TreeOf plain_join_of inner (changed (leaves_of inner (plain_at before)) place n) (plain_at after)
-  pub length : length after ≡ THETAWORDS

@@ -34,14 +34,7 @@ pub fn is_leaf(index: usize, number_of_internal_nodes: usize) -> bool
     index >= number_of_internal_nodes
 }
 
-// The size of a tree: its inner nodes, and the levels above its leaves.
-#[derive(Clone, Copy)]
-pub struct Size {
-    pub number_of_internal_nodes: usize,
-    pub height: usize,
-}
-
-// The size of the tree of a run: its inner nodes, the levels above its leaves, and the leaves that have a task.
+// The size of a tree: its inner nodes, the levels above its leaves, and the leaves that have a task.
 #[derive(Clone, Copy)]
 pub struct TreeSize {
     pub inner: usize,
@@ -50,18 +43,14 @@ pub struct TreeSize {
 }
 
 // The least tree with a leaf for each of `count` tasks.
-pub fn size_for(count: usize) -> Size
+pub fn size_for(count: usize) -> TreeSize
     requires { count ≤ TASKS }
-    ensures { Sized count result.number_of_internal_nodes result.height }
+    ensures { Sized count result.inner result.height × (result.leaves ≡ count) }
 {
-    let mut leaves: usize = 1;
-    let mut height: usize = 0;
-    while leaves < count {
-        leaves = 2 * leaves;
-        height += 1;
-    }
-    Size {
-        number_of_internal_nodes: leaves - 1,
-        height,
+    let width = count.next_power_of_two();
+    TreeSize {
+        inner: width - 1,
+        height: width.ilog2() as usize,
+        leaves: count,
     }
 }

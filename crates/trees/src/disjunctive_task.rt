@@ -20,20 +20,12 @@ pub struct DisjunctiveTask {
     pub id: LocalId,
 }
 
-// A place that stands in 32 bits.
-fn place_of(x: u32) -> usize
-    ensures { result ≡ x }
-{
-    x as usize
-}
-
 // The leaf of a task.
 pub fn leaf_of(mapping: &[u32; TASKS], id: LocalId) -> LeafPlace
     requires { id.0 < TASKS }
     ensures { result.0 ≡ get_or mapping.now id.0 0 }
 {
-    let i = id.0;
-    LeafPlace(place_of(mapping[i]))
+    LeafPlace(mapping[id.0] as usize)
 }
 
 // The task of a leaf.
@@ -41,6 +33,5 @@ pub fn task_of(reverse_mapping: &[usize; TASKS], place: LeafPlace) -> LocalId
     requires { place.0 < TASKS }
     ensures { result.0 ≡ get_or reverse_mapping.now place.0 0 }
 {
-    let i = place.0;
-    LocalId(reverse_mapping[i])
+    LocalId(reverse_mapping[place.0])
 }

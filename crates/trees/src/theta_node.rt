@@ -1,9 +1,12 @@
 // The nodes of the theta tree: the values of a node, and those of a parent from its children.
 ghost use Rattle.std.specs.Prelude.{◌≡◌};
+ghost use Rattle.integers.specs.Limits.{THETAWORDS};
 ghost use Rattle.trees.specs.Nodes.{plain_empty_of, plain_of, plain_join_of};
-ghost use Rattle.trees.specs.NodeBounds.{PlainFair, plain_size, Fits};
+ghost use Rattle.trees.specs.NodeBounds.{PlainFair, plain_size};
+ghost use Rattle.trees.specs.NodeLaws.{plain_additive};
+ghost use Rattle.trees.specs.Words.{plain_at};
 
-use integers::numbers::max;
+use crate::array_tree::TreeNode;
 
 // A node which keeps track of the ect and the sum of processing times of the tasks below it.
 #[derive(Clone, Copy)]
@@ -32,15 +35,40 @@ impl Node {
             sum_of_processing_times,
         }
     }
+}
 
-    // A parent from its children.
-    pub fn join(l: Node, r: Node) -> Node
-        requires { Fits plain_size PlainFair l × Fits plain_size PlainFair r }
-        ensures { result ≡ plain_join_of l r }
-    {
+impl TreeNode for Node {
+    ghost words = { THETAWORDS };
+
+    ghost at = { plain_at };
+
+    ghost size = { plain_size };
+
+    ghost Fair = { PlainFair };
+
+    ghost join_of = { plain_join_of };
+
+    ghost additive = { plain_additive };
+
+    fn load(nodes: &[u32], i: usize) -> Node {
+        let k = 2 * i;
+        Node {
+            ect: nodes[k],
+            sum_of_processing_times: nodes[k + 1],
+        }
+    }
+
+    fn store(nodes: &mut [u32], i: usize, n: Node) {
+        let k = 2 * i;
+        nodes[k] = n.ect;
+        nodes[k + 1] = n.sum_of_processing_times;
+    }
+
+    #[tactic(auto, unfolding(crate::specs::Nodes::plain_join_of))]
+    fn join(l: Node, r: Node) -> Node {
         let sum = l.sum_of_processing_times + r.sum_of_processing_times;
         let ect_left = l.ect + r.sum_of_processing_times;
-        let ect = max(r.ect, ect_left);
+        let ect = r.ect.max(ect_left);
         Node {
             ect,
             sum_of_processing_times: sum,

@@ -1,22 +1,25 @@
 -- What the call leaves of an instance is the text that is promised.
 use mathlib.Core.Logic.{◌⊎◌, inl, inr}
-use mathlib.Core.Path.{◌≡◌, refl, sym, ap, subst, ◌∙◌}
+use mathlib.Core.Path.{◌≡◌, refl, sym, ap, ◌∙◌}
 use mathlib.Core.Bool.{true}
 use mathlib.Core.List.{List}
 use Prim.Native.Nat.{ℕ, zero, suc, ◌≤◌}
 use native.Mathlib.Omega.{arith}
 use native.Mathlib.Decide.{ℕ_discrete}
+use Rattle.std.specs.Prelude.{None, Some, Ok, Err}
 use lib.IntN.{ℤ}
 use lib.ListN.{length, drop, length-append}
 use Rattle.integers.specs.Answers.{Answer}
+use Rattle.integers.specs.Refused.{number_of}
+use Rattle.integers.specs.declared.refused.Refusal.{Refusal}
+use Rattle.integers.proofs.RefusalNumbers.{never_zero}
 use Rattle.integers.specs.Tests.{refusal}
 use Rattle.integers.specs.Texts.{bytes_of}
 use Rattle.integers.proofs.Answers.{same_kind, same_count}
 use Rattle.integers.proofs.Words.{overwrites}
 use Rattle.records.specs.declared.record.DisjunctivePropagator.{DisjunctivePropagator}
 use Rattle.records.specs.declared.record.Created.{Created}
-use Rattle.records.specs.declared.record.Creation.TheVariants as creation
-use Rattle.records.specs.Records.{creation_tests, creation_numbers, number_of_creation, new_record, Creates}
+use Rattle.records.specs.Records.{creation_tests, number_of_creation, new_record, Creates}
 use Rattle.records.specs.Refusals.{input_number}
 use Rattle.records.proofs.Creation.{created_new}
 use Rattle.records.proofs.RefusedRuns.{accepted_input}
@@ -24,8 +27,6 @@ use Rattle.text.specs.DecimalText.{Puts}
 use Rattle.conflicts.specs.declared.answer.Found.{Found}
 use Rattle.conflicts.specs.declared.answer.Found.TheVariants as found
 use Rattle.conflicts.specs.ConflictOf.{conflict_of}
-use Rattle.conflict_pages.specs.declared.answer.ConflictPage.{ConflictPage}
-use Rattle.conflict_pages.specs.declared.answer.ConflictPage.TheVariants.{Written, NothingFound, Refused}
 use Rattle.conflict_pages.specs.Pages.{conflict_page_number, conflict_page_of, ConflictPaged}
 use Rattle.conflict_pages.proofs.RefusedPages.{call_first, room_enough}
 use Rattle.plan_cli.specs.Lines.{refused_line}
@@ -65,11 +66,8 @@ module _ (r : DisjunctivePropagator) (es ls : List ℤ) (out : List ℕ) (room :
   refused_text : (n ≡ 0 → ⊥) → why_on r es ls ≡ refused_line n
   refused_text h = or_refused (input_number r es ls true) _ (λ z. h (number_is ∙ z)) ∙ ap refused_line (sym number_is)
 
-  pub paged_as : {p q : ConflictPage} {out' : List ℕ} → p ≡ q → ConflictPaged r es ls true out p out' → ConflictPaged r es ls true out q out'
-  paged_as {out' = out'} e x = subst (λ (p : ConflictPage). ConflictPaged r es ls true out p out') e x
-
   -- ---- by what the call answered
-  pub page_text : {out' : List ℕ} (k : ℕ) → ConflictPaged r es ls true out (Written k) out' → length out' ≡ length out → Puts out out' 0 (why_on r es ls) k × (k ≤ length out)
+  pub page_text : {out' : List ℕ} (k : ℕ) → ConflictPaged r es ls true out (Ok (Some k)) out' → length out' ≡ length out → Puts out out' 0 (why_on r es ls) k × (k ≤ length out)
   page_text {out'} k x same = by (ℕ_discrete n 0) (is_nothing shown)
     where
       by : Dec (n ≡ 0) → (shown ≡ found.NothingFound) ⊎ Paging shown → Puts out out' 0 (why_on r es ls) k × (k ≤ length out)
@@ -83,7 +81,7 @@ module _ (r : DisjunctivePropagator) (es ls : List ℤ) (out : List ℕ) (room :
             omega (arith, e, fits),
           )
 
-  pub nothing_text : {out' : List ℕ} → ConflictPaged r es ls true out NothingFound out' → (out' ≡ out) × (bytes_of "nothing found\n" ≡ why_on r es ls)
+  pub nothing_text : {out' : List ℕ} → ConflictPaged r es ls true out (Ok None) out' → (out' ≡ out) × (bytes_of "nothing found\n" ≡ why_on r es ls)
   nothing_text {out'} x = by (ℕ_discrete n 0) (is_nothing shown)
     where
       by : Dec (n ≡ 0) → (shown ≡ found.NothingFound) ⊎ Paging shown → (out' ≡ out) × (bytes_of "nothing found\n" ≡ why_on r es ls)
@@ -91,27 +89,25 @@ module _ (r : DisjunctivePropagator) (es ls : List ℤ) (out : List ℕ) (room :
       by (yes z) (inl g) = ((x.nothing z g).keeps, sym (accepted_text z ∙ ap (λ (f : Found). found_text f (conflict_page_of r es ls)) g))
       by (yes z) (inr g) = absurd (omega (arith, same_kind (x.written z g.0).answer))
 
-  pub refused_texts : {out' : List ℕ} (m : ℕ) → ConflictPaged r es ls true out (Refused m) out' → (out' ≡ out) × (refused_line m ≡ why_on r es ls)
-  refused_texts {out'} m x = by (ℕ_discrete n 0) (is_nothing shown)
+  pub refused_texts : {out' : List ℕ} (why : Refusal) → ConflictPaged r es ls true out (Err why) out' → (out' ≡ out) × (refused_line (number_of why) ≡ why_on r es ls)
+  refused_texts {out'} why x = by (ℕ_discrete n 0) (is_nothing shown)
     where
-      by : Dec (n ≡ 0) → (shown ≡ found.NothingFound) ⊎ Paging shown → (out' ≡ out) × (refused_line m ≡ why_on r es ls)
+      by : Dec (n ≡ 0) → (shown ≡ found.NothingFound) ⊎ Paging shown → (out' ≡ out) × (refused_line (number_of why) ≡ why_on r es ls)
       by (no h) g = ((x.refused h).keeps, sym (refused_text h ∙ ap refused_line (sym (ap (λ (a : Answer). a.number) (x.refused h).answer))))
       by (yes z) (inl g) = absurd (omega (arith, same_kind (x.nothing z g).answer))
       by (yes z) (inr g) = absurd (omega (arith, same_kind (x.written z g.0).answer))
 
 -- ---- a record is made of the durations, or not
 module _ (es ls ds : List ℤ) (r : Created) (creates : Creates ds r) where
-  pub accepted_why : r.answer ≡ creation.Accepted → why_on r.«record» es ls ≡ why_of es ls ds
+  pub accepted_why : r.answer ≡ Ok tt → why_on r.«record» es ls ≡ why_of es ls ds
   accepted_why h =
       let z : refusal (creation_tests ds) ≡ 0 = sym creates.number ∙ ap number_of_creation h in
       ap (λ (x : DisjunctivePropagator). why_on x es ls) (creates.made ∙ ap (λ (x : Created). x.«record») (created_new ds z))
       ∙ ap (λ (k : ℕ). refused_or k (why_on (new_record ds) es ls)) (sym z)
 
-  pub refused_why : (number : ℕ) → r.answer ≡ creation.Refused number → refused_line number ≡ why_of es ls ds
-  refused_why number h = by (refusal (creation_tests ds)) refl
+  pub refused_why : (why : Refusal) → r.answer ≡ Err why → refused_line (number_of why) ≡ why_of es ls ds
+  refused_why why h = by (refusal (creation_tests ds)) (ap number_of_creation (sym h) ∙ creates.number)
     where
-      by : (k : ℕ) → refusal (creation_tests ds) ≡ k → refused_line number ≡ why_of es ls ds
-      by zero z = absurd (omega (arith, same_kind (ap creation_numbers (sym h) ∙ creates.answer ∙ ap (λ (x : Created). creation_numbers x.answer) (created_new ds z))))
-      by (suc k) z =
-          let q : number ≡ suc k = ap number_of_creation (sym h) ∙ creates.number ∙ z in
-          ap refused_line q ∙ ap (λ (j : ℕ). refused_or j (why_on (new_record ds) es ls)) (sym z)
+      by : (k : ℕ) → number_of why ≡ k → refused_line (number_of why) ≡ refused_or k (why_on (new_record ds) es ls)
+      by zero z = absurd (never_zero why z)
+      by (suc k) z = ap refused_line z

@@ -1,53 +1,41 @@
 // The page of an instance's conflict, or what is written in its place.
-ghost use Rattle.std.specs.Prelude.{◌≤◌, length, take};
-ghost use Rattle.integers.specs.Limits.{TASKS};
+ghost use Rattle.std.specs.Prelude.{◌≤◌, length};
 ghost use Rattle.text.specs.DecimalText.{Puts};
 ghost use Rattle.why_cli.specs.Written.{ROOM, why_on, why_of};
 
-use conflict_pages::answer::ConflictPage;
 use conflict_pages::page::conflict_page;
-use integers::limits::TASKS;
 use plan_cli::lines::put_refused;
-use records::record::{Creation, DisjunctivePropagator, create};
+use plan_cli::tasks::Tasks;
+use records::record::{DisjunctivePropagator, create};
 use text::writing::put_bytes;
 
-// The page on the first n ranges. They have no bars, so none is unfit.
+// The page on the ranges. They have no bars, so none is unfit.
 fn put_found(
     out: &mut [u8],
     record: DisjunctivePropagator,
-    n: usize,
-    earliest: [i32; TASKS],
-    latest: [i32; TASKS],
+    earliest: &[i32],
+    latest: &[i32],
 ) -> usize
-    requires { (n ≤ TASKS) × (ROOM ≤ length out.old) }
-    ensures text { Puts out.old out.new 0 (why_on «record» (take n earliest) (take n latest)) result }
+    requires { ROOM ≤ length out.old }
+    ensures text { Puts out.old out.new 0 (why_on «record» earliest.now latest.now) result }
     ensures within { result ≤ length out.old }
 {
-    let page = conflict_page(record, &earliest[..n], &latest[..n], true, out);
-    match page {
-        ConflictPage::Written(end) => end,
-        ConflictPage::NothingFound => put_bytes(out, 0, b"nothing found\n"),
-        ConflictPage::Refused(number) => put_refused(out, 0, number),
+    match conflict_page(record, earliest, latest, true, out) {
+        Ok(Some(end)) => end,
+        Ok(None) => put_bytes(out, 0, b"nothing found\n"),
+        Err(why) => put_refused(out, 0, why.number()),
     }
 }
 
-// A record of the first n durations, and the page on it.
-pub fn put_why(
-    out: &mut [u8],
-    n: usize,
-    earliest: [i32; TASKS],
-    latest: [i32; TASKS],
-    durations: [i32; TASKS],
-) -> usize
-    requires { (n ≤ TASKS) × (ROOM ≤ length out.old) }
-    ensures text { Puts out.old out.new 0 (why_of (take n earliest) (take n latest) (take n durations)) result }
+// A record of the tasks' durations, and the page on it.
+pub fn put_why(out: &mut [u8], tasks: &Tasks) -> usize
+    requires { ROOM ≤ length out.old }
+    ensures text { Puts out.old out.new 0 (why_of tasks.now.earliest tasks.now.latest tasks.now.durations) result }
     ensures within { result ≤ length out.old }
 {
-    let created = create(&durations[..n]);
-    let answer = created.answer;
-    let record = created.record;
-    match answer {
-        Creation::Accepted => put_found(out, record, n, earliest, latest),
-        Creation::Refused(number) => put_refused(out, 0, number),
+    let created = create(tasks.durations());
+    match created.answer {
+        Ok(()) => put_found(out, created.record, tasks.earliest(), tasks.latest()),
+        Err(why) => put_refused(out, 0, why.number()),
     }
 }

@@ -6,10 +6,10 @@ ghost use Rattle.ranges.specs.Ranges.{earliests, latests};
 ghost use Rattle.promises.specs.PrecedencesLent.{PrecedencesLent};
 ghost use Rattle.disjunctive.specs.GivenRanges.{given, StoredIn};
 
-use crate::by_value::{RANGES, Ranges, lent};
+use crate::by_value::{RANGES, Ranges};
 use crate::open_calls::by_precedence;
+use integers::refused::Refusal;
 use precedences::answers::Precedences;
-use precedences::reason::{BoundAbove, Reason};
 use ranges::range::Range;
 use records::record::DisjunctivePropagator;
 
@@ -21,10 +21,11 @@ pub struct RanPrecedences {
 }
 
 // The pass by precedences.
+#[tactic(auto, unfolding(crate::specs::GivenRanges::lent_of))]
 pub fn precedences(record: DisjunctivePropagator, ranges: Ranges) -> RanPrecedences
     ensures { StoredIn ranges result.ranges (λ ys ys'. PrecedencesLent «record» ys result.answer ys') }
 {
-    let n = lent(ranges.count);
+    let n = ranges.lent();
     let mut kept = ranges.ranges;
     let answer = by_precedence::precedences(&record, &mut kept[..n]);
     RanPrecedences {
@@ -34,13 +35,14 @@ pub fn precedences(record: DisjunctivePropagator, ranges: Ranges) -> RanPreceden
 }
 
 // A task's bound.
-pub fn precedence_bound(record: DisjunctivePropagator, ranges: Ranges, task: usize) -> BoundAbove
+pub fn precedence_bound(
+    record: DisjunctivePropagator,
+    ranges: Ranges,
+    task: usize,
+) -> Result<Option<i32>, Refusal>
     ensures { BoundGiven «record» (earliests (given ranges)) (latests (given ranges)) (all_bars_are_fit (given ranges)) task result }
 {
-    let n = lent(ranges.count);
-    let kept = ranges.ranges;
-    let answer = by_precedence::precedence_bound(&record, &kept[..n], task);
-    answer
+    by_precedence::precedence_bound(&record, ranges.given(), task)
 }
 
 // The reason of a task's bound.
@@ -49,12 +51,9 @@ pub fn precedence_reason(
     ranges: Ranges,
     task: usize,
     reason: &mut [i32],
-) -> Reason
+) -> Result<usize, Refusal>
     ensures { ReasonGiven «record» (earliests (given ranges)) (latests (given ranges)) (all_bars_are_fit (given ranges)) task reason.old result
         reason.new }
 {
-    let n = lent(ranges.count);
-    let kept = ranges.ranges;
-    let answer = by_precedence::precedence_reason(&record, &kept[..n], task, reason);
-    answer
+    by_precedence::precedence_reason(&record, ranges.given(), task, reason)
 }

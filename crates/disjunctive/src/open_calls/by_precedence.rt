@@ -5,16 +5,17 @@ ghost use Rattle.ranges.specs.Bars.{all_bars_are_fit};
 ghost use Rattle.ranges.specs.Ranges.{earliests, latests};
 ghost use Rattle.promises.specs.PrecedencesLent.{PrecedencesLent};
 
-use crate::precedence_cores::{bound_core, reason_core};
+use crate::taken_starts::{earliest_of, latest_of};
 use integers::limits::TASKS;
+use integers::refused::Refusal;
 use precedences::answers::Precedences;
-use precedences::reason::{BoundAbove, Reason};
 use ranges::bars::all_bars_fit;
 use ranges::range::Range;
 use ranges::starts::{starts_with_bars, store_starts, take_apart};
 use records::record::DisjunctivePropagator;
 
 // Each earliest start rises to the ect of the tasks that must come before its task, if later, and on to a permitted value. No latest start changes.
+#[tactic(auto, unfolding(ranges::specs::TakenApart::taken))]
 pub fn precedences(propagator: &DisjunctivePropagator, ranges: &mut [Range]) -> Precedences
     ensures { PrecedencesLent propagator.now ranges.old result ranges.new }
 {
@@ -22,13 +23,9 @@ pub fn precedences(propagator: &DisjunctivePropagator, ranges: &mut [Range]) -> 
     let mut earliest = [0; TASKS];
     let mut latest = [0; TASKS];
     let count = take_apart(ranges, &mut earliest, &mut latest);
-    let answer = precedences::pass::precedences(
-        *propagator,
-        &mut earliest[..count],
-        &latest[..count],
-        bars_fit,
-    );
-    store_starts(ranges, &earliest[..count]);
+    let earliest = &mut earliest[..count];
+    let answer = precedences::pass::precedences(*propagator, earliest, &latest[..count], bars_fit);
+    store_starts(ranges, earliest);
     answer
 }
 
@@ -37,12 +34,18 @@ pub fn precedence_bound(
     propagator: &DisjunctivePropagator,
     ranges: &[Range],
     task: usize,
-) -> BoundAbove
+) -> Result<Option<i32>, Refusal>
     ensures { BoundGiven propagator.now (earliests ranges.now) (latests ranges.now)
         (all_bars_are_fit ranges.now) task result }
 {
-    let starts = starts_with_bars(ranges);
-    bound_core(*propagator, starts, task)
+    let taken = starts_with_bars(ranges);
+    precedences::bounds::precedence_bound(
+        *propagator,
+        earliest_of(&taken.starts),
+        latest_of(&taken.starts),
+        taken.bars_fit,
+        task,
+    )
 }
 
 // Writes the reason of the task's bound over the lent ranges, and answers how many atoms it has.
@@ -51,10 +54,17 @@ pub fn precedence_reason(
     ranges: &[Range],
     task: usize,
     reason: &mut [i32],
-) -> Reason
+) -> Result<usize, Refusal>
     ensures { ReasonGiven propagator.now (earliests ranges.now) (latests ranges.now)
         (all_bars_are_fit ranges.now) task reason.old result reason.new }
 {
-    let starts = starts_with_bars(ranges);
-    reason_core(*propagator, starts, task, reason)
+    let taken = starts_with_bars(ranges);
+    precedences::reason::precedence_reason(
+        *propagator,
+        earliest_of(&taken.starts),
+        latest_of(&taken.starts),
+        taken.bars_fit,
+        task,
+        reason,
+    )
 }

@@ -4,9 +4,9 @@ ghost use Rattle.conflict_pages.specs.Pages.{ConflictPaged};
 ghost use Rattle.ranges.specs.Bars.{all_bars_are_fit};
 ghost use Rattle.ranges.specs.Ranges.{earliests, latests};
 
-use crate::conflict_cores::{conflict_core, conflict_page_core};
-use conflict_pages::answer::ConflictPage;
+use crate::taken_starts::{earliest_of, latest_of};
 use conflicts::answer::Conflict;
+use integers::refused::Refusal;
 use ranges::range::Range;
 use ranges::starts::starts_with_bars;
 use records::record::DisjunctivePropagator;
@@ -16,8 +16,13 @@ pub fn conflict(propagator: &DisjunctivePropagator, ranges: &[Range]) -> Conflic
     ensures { ConflictFound propagator.now (earliests ranges.now) (latests ranges.now)
         (all_bars_are_fit ranges.now) result }
 {
-    let starts = starts_with_bars(ranges);
-    conflict_core(*propagator, starts)
+    let taken = starts_with_bars(ranges);
+    conflicts::conflict::conflict(
+        *propagator,
+        earliest_of(&taken.starts),
+        latest_of(&taken.starts),
+        taken.bars_fit,
+    )
 }
 
 // The same as text.
@@ -25,10 +30,16 @@ pub fn conflict_page(
     propagator: &DisjunctivePropagator,
     ranges: &[Range],
     out: &mut [u8],
-) -> ConflictPage
+) -> Result<Option<usize>, Refusal>
     ensures { ConflictPaged propagator.now (earliests ranges.now) (latests ranges.now)
         (all_bars_are_fit ranges.now) out.old result out.new }
 {
-    let starts = starts_with_bars(ranges);
-    conflict_page_core(*propagator, starts, out)
+    let taken = starts_with_bars(ranges);
+    conflict_pages::page::conflict_page(
+        *propagator,
+        earliest_of(&taken.starts),
+        latest_of(&taken.starts),
+        taken.bars_fit,
+        out,
+    )
 }

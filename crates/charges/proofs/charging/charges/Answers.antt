@@ -1,13 +1,9 @@
--- The number decides: `refused` has charges of zero, `made` those of the accepted schedule.
-use borrow.Author.Rules.{rules}
-use Rattle.charges.proofs.AcceptedCharges.{chargeable, refused, made}
+-- An accepted schedule has the charges that are made of it.
+use Rattle.charges.proofs.AcceptedCharges.{chargeable, made}
 use Rattle.charges.proofs.charging.charges.Goals as goal
 
-pub charges_of-requires : goal.charges_of-requires
-charges_of-requires c = search (chargeable, rules)
+pub charges_of-charged-requires : goal.charges_of-charged-requires
+charges_of-charged-requires c = chargeable _ _ _ _ c.in-Ok.ensures
 
-pub returns-then-number-ne0 : goal.returns-then-number-ne0
-returns-then-number-ne0 c = search (refused, rules)
-
-pub returns : goal.returns
-returns c = search (made, rules)
+pub returns-in-Ok : goal.returns-in-Ok
+returns-in-Ok c = rw c.in-Ok.is (made _ _ _ _ c.in-Ok.ensures _ c.charges_of-charged.ensures)

@@ -1,17 +1,20 @@
 -- What refuses the schedule goes before; then the list's length and its moments, which share the number 19.
-use borrow.Author.Rules.{rules}
+use Rattle.std.proofs.Common.{rules}
 use Rattle.records.proofs.TestsInOrder.{in_order}
-use Rattle.fixed_schedules.proofs.FixedRefused.{number_first, number_refuses, number_passes}
+use Rattle.fixed_schedules.proofs.FixedRefused.{schedule_first, number_refuses, number_passes}
+use Rattle.charges.proofs.refusals.charges_refusal.Goals.{then-due-record-via-then-due-record, then-due-record-via-else-due-record+then-not-dues_fit}
 use Rattle.charges.proofs.refusals.charges_refusal.Goals as goal
 
-pub returns-then-fixed-ne0 : goal.returns-then-fixed-ne0
-returns-then-fixed-ne0 c = search (number_first, rules)
+pub returns-in_err-fixed_order : goal.returns-in_err-fixed_order
+returns-in_err-fixed_order c = search (schedule_first, rules)
 
 pub returns-then-due-record : goal.returns-then-due-record
-returns-then-due-record c = search (number_refuses, in_order, rules)
-
-pub returns-then-not-dues_fit : goal.returns-then-not-dues_fit
-returns-then-not-dues_fit c = search (number_refuses, in_order, rules)
+returns-then-due-record c =
+    let passed = c.in_ok-fixed_order.ensures in
+    elim c.then-due-record.branch [
+      | then-due-record-via-then-due-record w ↦ search (number_refuses, passed, in_order, rules)
+      | then-due-record-via-else-due-record+then-not-dues_fit w ↦ search (number_refuses, passed, in_order, rules)
+    ]
 
 pub returns : goal.returns
-returns c = search (number_passes, in_order, rules)
+returns c = let passed = c.in_ok-fixed_order.ensures in search (number_passes, passed, in_order, rules)

@@ -1,48 +1,39 @@
-use mathlib.Core.Path.{◌≡◌, sym, ap, subst, ◌∙◌}
-use Prim.Native.Nat.{◌+◌, ◌^◌, ◌<◌}
-use native.Mathlib.Omega.{arith}
-use lib.ListN.{get_or}
+-- A bounded task is joined to those before it, or is the first.
+use Rattle.std.proofs.Common.{◌≡◌, ◌∙◌, sym, ap, false, ◌+◌, get_or, arith}
+use Rattle.std.specs.Prelude.{Some}
 use Rattle.checker.specs.declared.intervals.Interval.{Interval}
-use Rattle.checker.specs.BoundArrays.{interval_of}
-use Rattle.checker.proofs.TaskLoop.{none_gathered, ends_fit, sum_fits, next_gathered}
-use Rattle.checker.proofs.intervals.gather.Goals.{In-loop-i}
+use Rattle.checker.specs.BoundArrays.{interval, joined}
+use Rattle.checker.proofs.EarlyAnswers.{found}
+use Rattle.checker.proofs.TaskLoop.{one_more, none_gathered, sum_fits, next_gathered}
 use Rattle.checker.proofs.intervals.gather.Goals as goal
-
-inside : (c : In-loop-i) → c.loop-i.i < c.args.n
-inside c = omega arith
-
--- no sum of a task's numbers leaves 32 bits
-ends : (c : In-loop-i) → let a = c.args in let i = c.loop-i.i in
-    (get_or a.est.now i 0 + get_or a.durations.now i 0 < 4294967296) × (get_or a.lst.now i 0 + get_or a.durations.now i 0 < 4294967296)
-ends c = let v = c.requires in ends_fit v.2 v.3 c.loop-i.i (inside c)
-
-pub with-gathered-requires : goal.with-gathered-requires
-with-gathered-requires c =
-    let v = c.requires in
-    let i = c.loop-i.i in
-    let d = get_or c.args.durations.now i 0 in
-    subst (λ (x : Interval). x.p + d < 2 ^ 64) (sym (c.loop-i.invariant.1 v.0 v.1 v.2 v.3)) (sum_fits v.2 v.3 i (inside (goal.at.with-gathered-requires c).In-loop-i))
-
-pub loop-i-preserved : goal.loop-i-preserved
-loop-i-preserved c =
-    let l = c.loop-i in
-    let q = inside (goal.at.loop-i-preserved c).In-loop-i in
-    (omega (arith, q), λ J Ω h late. next_gathered h late l.i q l.gathered c.with-gathered.result (l.invariant.1 J Ω h late) c.with-gathered.ensures)
-
-pub returns : goal.returns
-returns c = λ J Ω h late. let l = c.loop-i in let e : l.i ≡ c.args.n = omega arith in l.invariant.1 J Ω h late ∙ ap (interval_of J Ω) e
+use Rattle.checker.proofs.intervals.gather.Goals.{Joined-bounds-i, then-bounds-i+in-Some, then-bounds-i+in-None, else-bounds-i}
 
 pub loop-i-init : goal.loop-i-init
-loop-i-init c = (omega arith, λ J Ω h l. none_gathered J Ω)
+loop-i-init c J Ω b = none_gathered J Ω
 
-pub overflow_cast-p : goal.overflow_cast-p
-overflow_cast-p c = record { fits = omega (arith, ends (goal.at.overflow_cast-p c).In-loop-i) }
+pub joined-requires : goal.joined-requires
+joined-requires c =
+    let (J, Ω, b) = c.requires in
+    let l = c.loop-i in
+    let p = sum_fits b.held b.late l.i c.loop-i-test.true in
+    omega (arith, c.from-p.ensures, p, ap (λ (v : Interval). v.p) (found (sym c.in-Some.is ∙ l.invariant J Ω b)).1)
 
-pub overflow_cast-est : goal.overflow_cast-est
-overflow_cast-est c = record { fits = omega (arith, ends (goal.at.overflow_cast-est c).In-loop-i) }
+-- what the turn makes
+abbrev task : Joined-bounds-i → Interval
+task c =
+    let b = c.args.bounds.now in
+    let i = c.loop-i.i in
+    interval (get_or b.est i 0) (get_or b.lst i 0 + get_or c.args.durations.now i 0) (get_or c.args.durations.now i 0)
 
-pub overflow_cast-lst : goal.overflow_cast-lst
-overflow_cast-lst c = record { fits = omega (arith, ends (goal.at.overflow_cast-lst c).In-loop-i) }
+turned : (c : Joined-bounds-i) → c.if-bounds-i.gathered ≡ one_more c.loop-i.gathered (get_or c.args.bounds.now.bounded c.loop-i.i false) (task c)
+turned c = elim c.if-bounds-i.branch [
+  | then-bounds-i+in-Some w ↦ rw (w.if-bounds-i.true, w.in-Some.is)
+      (w.gathered-is ∙ ap (λ (v : Interval). Some v) (w.joined.ensures ∙ λ i. joined w.in-Some.others (interval (w.from.ensures i) (w.from-then-bounds-i.ensures i + w.from-p.ensures i) (w.from-p.ensures i))))
+  | then-bounds-i+in-None w ↦ rw (w.if-bounds-i.true, w.in-None.is)
+      (w.gathered-is ∙ λ i. Some (interval (w.from.ensures i) (w.from-then-bounds-i.ensures i + w.from-p.ensures i) (w.from-p.ensures i)))
+  | else-bounds-i w ↦ rw w.if-bounds-i.false w.gathered-is
+]
 
-pub overflow_add-lst : goal.overflow_add-lst
-overflow_add-lst c = omega (arith, ends (goal.at.overflow_add-lst c).In-loop-i)
+pub loop-i-preserved : goal.loop-i-preserved
+loop-i-preserved c J Ω b =
+    turned c ∙ next_gathered b.held b.late c.loop-i.i c.loop-i-test.true c.loop-i.gathered (c.loop-i.invariant J Ω b)

@@ -1,48 +1,20 @@
-use borrow.Author.Rules.{rules}
-use mathlib.Core.Path.{◌≡◌, refl, sym, ap, ◌∙◌}
-use mathlib.Core.List.{List}
-use Prim.Native.Nat.{◌+◌}
-use native.Mathlib.Omega.{arith}
-use lib.IntN.{ℤ, pos}
-use lib.ListN.{get_or, drop, length-drop, drop_of_length-le}
-use Rattle.checking.specs.Atoms.{right_atom, right_words}
-use Rattle.checking.proofs.Atoms.{words_on, words_short, words_none}
-use Rattle.checking.proofs.ReadWords.{read_right}
-use Rattle.checking.proofs.atomic_constraint.words_are_accepted.Goals.{After-atom_is_accepted}
+-- Where no word is left over, the words are right exactly where each three of them are.
+use Rattle.std.proofs.Common.{◌≡◌, ◌∙◌, sym, ℕ, ◌/◌, List, ℤ, length, arith, rules, tests}
+use Rattle.std.proofs.lemmas.Iterator.{YieldsList-from_slice}
+use Rattle.std.proofs.lemmas.Iterator.Search.{all_from_yields_List}
+use Rattle.checking.proofs.Atoms.{right_three, words_threes, words_left_over}
 use Rattle.checking.proofs.atomic_constraint.words_are_accepted.Goals as goal
 
-pub returns-then-words-i-lt3 : goal.returns-then-words-i-lt3
-returns-then-words-i-lt3 c =
-    let l = c.loop-i in
-    let words = c.args.words.now in
-    sym (sym l.invariant.1 ∙ words_short (drop l.i words) (simp length-drop (omega arith)) (simp length-drop (omega arith)))
+pub returns-then-is_empty : goal.returns-then-is_empty
+returns-then-is_empty c =
+    let words : List ℤ = c.args.words.now in
+    let none : length c.as_chunks.result.1.now ≡ 0 = search (rules, tests) in
+    let n : ℕ = length words / 3 in
+    let threes = words_threes n words (omega (arith, c.as_chunks.ensures.back_len)) in
+    all_from_yields_List right_three _ _ _ c.all.ensures.ran (YieldsList-from_slice c.as_chunks.result.0.now cc) (λ x b q k. search (rules, tests))
+    ∙ rw c.as_chunks.ensures.front (sym threes)
 
-abbrev words : After-atom_is_accepted → List ℤ
-words c = c.args.words.now
-
--- what the call was asked of, in the words' own terms
-read : (c : After-atom_is_accepted) → let i = c.loop-i.i in
-    right_atom (get_or (words c) i (pos 0)) (get_or (words c) (i + 1) (pos 0)) (get_or (words c) (i + 2) (pos 0)) ≡ c.atom_is_accepted.result
-read c = sym (c.atom_is_accepted.ensures
-    ∙ read_right (record { sfits = search rules }) (record { sfits = search rules })
-    (record { sfits = search rules }))
-
-pub returns-then-not-atom_is_accepted : goal.returns-then-not-atom_is_accepted
-returns-then-not-atom_is_accepted c =
-    let l = c.loop-i in
-    sym (sym l.invariant.1 ∙ words_on (words (goal.at.returns-then-not-atom_is_accepted c).After-atom_is_accepted) l.i (omega arith) ∙ rw (read (goal.at.returns-then-not-atom_is_accepted c).After-atom_is_accepted ∙ c.if-not-atom_is_accepted.true))
-
-pub loop-i-preserved : goal.loop-i-preserved
-loop-i-preserved c =
-    let l = c.loop-i in
-    let e : right_words (drop l.i (words (goal.at.loop-i-preserved c).After-atom_is_accepted)) ≡ right_words (drop (l.i + 3) (words (goal.at.loop-i-preserved c).After-atom_is_accepted)) = words_on (words (goal.at.loop-i-preserved c).After-atom_is_accepted) l.i (omega arith)
-    ∙ rw (read (goal.at.loop-i-preserved c).After-atom_is_accepted ∙ c.if-not-atom_is_accepted.false) in
-    (omega arith, sym e ∙ l.invariant.1)
-
-pub returns : goal.returns
-returns c =
-    let l = c.loop-i in
-    sym (sym l.invariant.1 ∙ ap right_words (drop_of_length-le c.args.words.now {i = l.i} (omega arith)) ∙ words_none)
-
-pub loop-i-init : goal.loop-i-init
-loop-i-init c = (omega arith, refl)
+pub returns-else-is_empty : goal.returns-else-is_empty
+returns-else-is_empty c =
+    let some : length c.as_chunks.result.1.now ≡ 0 → ⊥ = search (rules, tests) in
+    c.if-is_empty.false ∙ sym (words_left_over c.args.words.now (λ e. some (c.as_chunks.ensures.back_len ∙ e)))

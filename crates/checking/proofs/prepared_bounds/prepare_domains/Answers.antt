@@ -1,21 +1,21 @@
 -- The state is the prepared one, so that the bounds are its domains'.
-use mathlib.Core.Path.{sym, ap, ◌∙◌, subst}
+use Rattle.std.proofs.Common.{◌∙◌, ap, rules, tests}
 use Rattle.checking.specs.declared.variable_state.Applied.{Applied}
-use Rattle.checking.specs.States.{AcceptedState}
-use Rattle.checking.specs.TaskBounds.{bounds_among}
+use Rattle.checking.specs.declared.variable_state.VariableState.{VariableState}
+use Rattle.checking.specs.States.{AcceptedState, domain_at}
+use Rattle.checking.specs.TaskBounds.{bounds_of_task, bounds_among}
+use Rattle.checking.proofs.Bounds.{bounds_among_are}
 use Rattle.checking.proofs.PreparedStates.{prepared_accepted}
 use Rattle.checking.proofs.prepared_bounds.prepare_domains.Goals as goal
 
-pub bounds_of-requires : goal.bounds_of-requires
-bounds_of-requires c =
-    let a = c.args in
-    let is = c.apply_all-applied.ensures in
-    (c.requires.0, subst (λ (r : Applied). AcceptedState r.state) (sym is) (prepared_accepted a.premises.now a.consequent.now), c.requires.1)
-
 pub returns : goal.returns
 returns c =
-    let is = c.apply_all-applied.ensures in
+    let a = c.args in
+    let s : VariableState = c.apply_all-applied.result.state in
+    let e = c.apply_all-applied.ensures in
+    let accepted : AcceptedState s = rw e (prepared_accepted a.premises.now a.consequent.now) in
     record {
-      answer = ap (λ (r : Applied). r.answer) is;
-      bounds = λ _. c.bounds_of.ensures ∙ ap (λ (r : Applied). bounds_among r.state c.args.n) is;
+      answer = ap (λ (r : Applied). r.answer) e;
+      bounds = λ _. c.fill.ensures (λ k. bounds_of_task (domain_at s k)) (λ k r h q. search (rules, tests)) ∙ bounds_among_are s accepted a.n c.requires.0
+          ∙ ap (λ (r : Applied). bounds_among r.state a.n) e;
     }

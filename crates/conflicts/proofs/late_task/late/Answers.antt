@@ -1,5 +1,5 @@
 -- The definition, step by step: the others, the suffix of them that gives the bound, and the spans of the three sets.
-use Rattle.conflicts.specs.declared.task_moments.TaskMoments.{TaskMoments}
+use Rattle.overload_test.specs.declared.task_moments.TaskMoments.{TaskMoments}
 use mathlib.Core.Bool.{Bool, false}
 use mathlib.Core.List.{List}
 use Rattle.conflicts.specs.HeldTasks.{Lates, HoldsSet}
@@ -22,7 +22,7 @@ small : {m : TaskMoments} {named : List Bool} {task : ℕ} (h : HoldsSet m named
 small h late = omega (arith, late.task.small, count h)
 
 -- the suffix of the others
-abbrev before : (c : After-suffix_to-before) (h : HoldsSet c.args.m c.args.named) → HoldsSet c.args.m c.suffix_to-before.result
+abbrev before : (c : After-suffix_to-before) (h : HoldsSet c.args.m.now c.args.named) → HoldsSet c.args.m.now c.suffix_to-before.result
 before c h = record {
   J = h.J;
   Ω = suffix_up_to h.J (others h.Ω c.args.task) (moment zero_at c.args.bound);
@@ -31,7 +31,7 @@ before c h = record {
       ∙ ap (λ (t : ℕ). flags_of h.J.count (suffix_up_to h.J (others h.Ω c.args.task) t)) (c.moment_of.ensures ∙ ap (moment zero_at) (back c.ranges.bound));
 }
 
-without_task : (s : Start) → HoldsSet s.args.m (set s.args.named s.args.task false)
+without_task : (s : Start) → HoldsSet s.args.m.now (set s.args.named s.args.task false)
 without_task s = without s.requires.0 s.args.task (small s.requires.0 s.requires.1)
 
 pub past-requires : goal.past-requires

@@ -23,7 +23,7 @@ pub bounds-named-variable : goal.bounds-named-variable
 bounds-named-variable c =
     let h = c.requires in
     let k = c.loop-k.k in
-    let q = inside h c.atoms_in-n.result k c.atoms_in-n.ensures c.loop-k-test.true in
+    let q = inside h c.atoms_in-k-end.result k c.atoms_in-k-end.ensures c.loop-k-test.true in
     omega (arith, variable h k q (c.nat_of-variable.ensures ∙ back_of w32 (get_or c.args.reason.now (3 * k) (pos 0)) (search rules)), variable_known h k q)
 
 pub nat_of-variable-requires : goal.nat_of-variable-requires
@@ -31,27 +31,25 @@ unfolding up dn
 nat_of-variable-requires c =
     let h = c.requires in
     let k = c.loop-k.k in
-    let q = inside h c.atoms_in-n.result k c.atoms_in-n.ensures c.loop-k-test.true in
+    let q = inside h c.atoms_in-k-end.result k c.atoms_in-k-end.ensures c.loop-k-test.true in
     subst (λ (z : ℤ). pos 0 ≤ℤ z) (sym (back_of w32 (get_or c.args.reason.now (3 * k) (pos 0)) (search rules) ∙ variable_at h k q)) (omega ints)
 
 pub loop-k-preserved : goal.loop-k-preserved
 loop-k-preserved c =
-    let l = c.loop-k in (
-      omega arith,
-      λ h.
-          let q = inside h c.atoms_in-n.result l.k c.atoms_in-n.ensures c.loop-k-test.true in
-          rw (variable h l.k q (c.nat_of-variable.ensures ∙ back_of w32 (get_or c.args.reason.now (3 * l.k) (pos 0)) (search rules)))
-          (one_marked (variables h.atoms) l.k (omega (arith, variables_long h)) (variable_known h l.k q) (l.invariant.1 h)),
-    )
+    λ h.
+    let l = c.loop-k in
+    let q = inside h c.atoms_in-k-end.result l.k c.atoms_in-k-end.ensures c.loop-k-test.true in
+    rw (variable h l.k q (c.nat_of-variable.ensures ∙ back_of w32 (get_or c.args.reason.now (3 * l.k) (pos 0)) (search rules)))
+    (one_marked (variables h.atoms) l.k (omega (arith, variables_long h)) (variable_known h l.k q) (l.invariant h))
 
 pub returns : goal.returns
 returns c h =
     let l = c.loop-k in
-    let z : l.k ≡ length h.atoms = omega (arith, atom_count h, c.atoms_in-n.ensures) in
-    rw z at (l.invariant.1 h) ∙ named_marked h
+    let z : l.k ≡ length h.atoms = omega (arith, atom_count h, c.atoms_in-k-end.ensures) in
+    rw z at (l.invariant h) ∙ named_marked h
 
 pub loop-k-init : goal.loop-k-init
-loop-k-init c = (omega arith, λ h. none_marked (variables h.atoms))
+loop-k-init c = λ h. none_marked (variables h.atoms)
 
 pub bounds-reason-k : goal.bounds-reason-k
-bounds-reason-k c = omega (arith, atom_count c.requires, inside c.requires c.atoms_in-n.result c.loop-k.k c.atoms_in-n.ensures c.loop-k-test.true)
+bounds-reason-k c = omega (arith, atom_count c.requires, inside c.requires c.atoms_in-k-end.result c.loop-k.k c.atoms_in-k-end.ensures c.loop-k-test.true)

@@ -1,5 +1,5 @@
 -- The definition, step by step: the tasks read, their ect, the suffix that attains it, and its span.
-use Rattle.conflicts.specs.declared.task_moments.TaskMoments.{TaskMoments}
+use Rattle.overload_test.specs.declared.task_moments.TaskMoments.{TaskMoments}
 use mathlib.Core.Bool.{Bool}
 use mathlib.Core.List.{List}
 use mathlib.Core.Path.{◌≡◌, ap, ◌∙◌}
@@ -26,11 +26,11 @@ use Rattle.conflicts.proofs.overloading.overloading.Goals as goal
 abbrev reads : {m : TaskMoments} {k : ℕ} (h : Overloadable m k) {flags : List Bool} → flags ≡ flags_of h.J.count (read h.J k) → HoldsSet m flags
 reads {m} {k} h e = record { J = h.J; Ω = read h.J k; holds = h.holds; flags = e }
 
-moment : (c : After-suffix_to-tasks) (h : Overloadable c.args.m c.args.k)
+moment : (c : After-suffix_to-tasks) (h : Overloadable c.args.m.now c.args.k)
     → c.raised.result ≡ raised_to 0 (ect_of h.J (read h.J c.args.k))
 moment c h = c.raised.ensures ∙ ap (raised_to 0) (c.theta_ect-ect.ensures h.J (read h.J c.args.k) (held_set (reads h (c.tasks_read-read.ensures h.J h.holds))))
 
-abbrev left : (c : After-suffix_to-tasks) (h : Overloadable c.args.m c.args.k) → HoldsSet c.args.m c.suffix_to-tasks.result
+abbrev left : (c : After-suffix_to-tasks) (h : Overloadable c.args.m.now c.args.k) → HoldsSet c.args.m.now c.suffix_to-tasks.result
 left c h = record {
   J = h.J;
   Ω = overloading_set h.J c.args.k;
@@ -39,7 +39,7 @@ left c h = record {
 }
 
 -- its span
-span : (c : After-span_of-span) (h : Overloadable c.args.m c.args.k)
+span : (c : After-span_of-span) (h : Overloadable c.args.m.now c.args.k)
     → c.span_of-span.result ≡ span_of h.J (overloading_set h.J c.args.k)
 span c h = c.span_of-span.ensures (left (goal.at.After-span_of-span c).After-suffix_to-tasks h)
 
@@ -50,7 +50,7 @@ pub suffix_to-tasks-requires : goal.suffix_to-tasks-requires
 suffix_to-tasks-requires c = let h = c.requires in reads h (c.tasks_read-read.ensures h.J h.holds)
 
 pub span_of-span-requires : goal.span_of-span-requires
-span_of-span-requires c = left c c.requires
+span_of-span-requires c = left (goal.at.span_of-span-requires c).After-suffix_to-tasks c.requires
 
 pub past-requires : goal.past-requires
 past-requires c =

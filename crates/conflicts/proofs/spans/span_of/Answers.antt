@@ -6,32 +6,21 @@ use Rattle.conflicts.proofs.HeldSets.{count, span_turn, span_fits}
 use Rattle.conflicts.proofs.spans.span_of.Goals as goal
 
 pub loop-k-init : goal.loop-k-init
-loop-k-init c = (omega arith, λ h. sym (span_none h.J h.Ω))
+loop-k-init c = λ h. sym (span_none h.J h.Ω)
 
 pub with-span-requires : goal.with-span-requires
 with-span-requires c =
     let l = c.loop-k in
     let h = c.requires in
-    omega (arith, span_fits h l.k (omega arith), ap (λ (s : Span). s.p) (l.invariant.1 h))
+    omega (arith, span_fits h l.k (omega arith), ap (λ (s : Span). s.p) (l.invariant h))
 
 pub loop-k-preserved : goal.loop-k-preserved
-loop-k-preserved c =
-    let l = c.loop-k in
-    (omega arith, λ h. rw (l.invariant.1 h) at c.with-span.ensures ∙ span_turn h l.k (omega arith))
+loop-k-preserved c = λ h. rw (c.loop-k.invariant h) at c.with-span.ensures ∙ span_turn h c.loop-k.k (omega arith)
 
 pub returns : goal.returns
 returns c h =
     let e : c.loop-k.k ≡ h.J.count = omega (arith, count h) in
-    rw e at (c.loop-k.invariant.1 h)
+    rw e at (c.loop-k.invariant h)
 
 pub bounds-tasks-k : goal.bounds-tasks-k
 bounds-tasks-k c = omega (arith, c.requires.holds.held.few)
-
-pub bounds-m-k : goal.bounds-m-k
-bounds-m-k c = omega (arith, c.requires.holds.held.few)
-
-pub bounds-m-k-in-loop-k : goal.bounds-m-k-in-loop-k
-bounds-m-k-in-loop-k c = omega (arith, c.requires.holds.held.few)
-
-pub bounds-m-k-in-loop-k-2 : goal.bounds-m-k-in-loop-k-2
-bounds-m-k-in-loop-k-2 c = omega (arith, c.requires.holds.held.few)

@@ -1,14 +1,10 @@
 -- The invariant: the lines of the tasks below k are put, with at most 63 bytes for each.
-use mathlib.Core.Path.{◌≡◌}
-use Prim.Native.Nat.{◌+◌, ◌*◌, ◌-◌, ◌≤◌}
-use lib.ListN.{length, take}
+use Prim.Native.Nat.{◌+◌, ◌*◌, ◌≤◌}
+use lib.ListN.{take}
 use Rattle.text.specs.DecimalText.{Puts}
 use Rattle.plan_cli.specs.Lines.{lines}
 use Rattle.costliest_cli.specs.Tasks.{task_line, costliest}
 use Rattle.costliest_cli.proofs.tasks.put_tasks.Given as goal
 
 abbrev pub invariant-loop-k : goal.invariant-loop-k
-invariant-loop-k l = (l.k ≤ l.n) × (length l.out ≡ length l.initial.out) × (l.end ≤ l.at + 63 * l.k) × Puts l.initial.out l.out l.at (lines task_line (take l.k (costliest l.n))) l.end
-
-abbrev pub decreases-loop-k : goal.decreases-loop-k
-decreases-loop-k l = l.n - l.k
+invariant-loop-k l = (l.end ≤ l.at + 63 * l.k) × Puts l.initial.out l.out l.at (lines task_line (take l.k (costliest l.n))) l.end

@@ -1,64 +1,59 @@
 -- ω passes lct (`overflow`), so that delta and its two shares are natural numbers; the atoms are those of `conflict`.
-use mathlib.Core.Bool.{Bool}
-use Prim.Native.Nat.{ℕ}
-use native.Mathlib.Omega.{arith}
-use lib.ListN.{length}
-use Rattle.trees.specs.ArraySearches.{white_in, task_in}
-use Rattle.explanations.specs.Walks.{between, Known}
-use Rattle.explanations.specs.Explanations.{ConflictExplainable}
+use Rattle.std.proofs.Common.{rules, of_calls, arith}
+use mathlib.Core.Path.{refl, ap}
+use Prim.Native.Nat.{ℕ, ◌≤◌, ◌+◌}
+use lib.ListN.{length, get_or}
+use Rattle.explanations.specs.Walks.{Known, StopsAt}
+use Rattle.explanations.specs.Leaves.{white_of, task_at, tasks_between}
+use Rattle.explanations.specs.Explanations.{Overloads, ConflictExplainable}
 use Rattle.explanations.proofs.LeafWalk.{all_leaves}
-use Rattle.explanations.proofs.StoredReasons.{each_there, white_writable, conflict_stored, Overflow, overload_walk, overload_stops, overflow}
-use Rattle.explanations.proofs.explanations.create_conflict_explanation.Goals.{After-of_leaf-est_omega, Start}
+use Rattle.explanations.proofs.StoredReasons.{asks, stops_at, each_there, white_writable, conflict_stored, Overflow, overload_walk, overflow}
+use Rattle.explanations.proofs.explanations.create_conflict_explanation.Goals.{Start, After-walk-omega, After-task}
 use Rattle.explanations.proofs.explanations.create_conflict_explanation.Goals as goal
 
-abbrev white : Start → ℕ → Bool
-white c = white_in c.args.nodes.now c.args.inner
-
-abbrev tasks : Start → ℕ → ℕ
-tasks c = task_in c.args.reverse_mapping.now
-
 -- what is asked, of the leaves
-given : (c : Start) → let a = c.args in ConflictExplainable (length a.atoms.now) a.k (between (white c) (tasks c) 0 a.n) a.est.now a.durations.now a.p_theta a.lct
-given c = rw (all_leaves (white c) (tasks c) c.args.n) at c.requires.0
+given : (c : Start) → let a = c.args in ConflictExplainable (length a.atoms.now) a.k (tasks_between a.theta 0 a.theta.n) a.theta.est.now a.theta.durations.now a.p_theta a.lct
+given c = rw (all_leaves (white_of c.args.theta) (task_at c.args.theta) c.args.theta.n) at c.requires
 
-numbers : (c : After-of_leaf-est_omega) → Overflow c.args.lct c.preceding-omega.result.lasts c.of_leaf-est_omega.result
-numbers c = overflow (given (goal.at.After-of_leaf-est_omega c).Start) c.preceding-omega.ensures c.of_leaf-est_omega.ensures
+stops : (c : After-walk-omega) → let t = c.args.theta in StopsAt (white_of t) (task_at t) (Overloads t.est.now c.args.lct) t.durations.now 0 t.n c.walk-omega.result.first.0 c.walk-omega.result.lasts
+stops c = stops_at c.walk-omega.ensures (λ k q h. search of_calls) (λ k q h over. (let past : get_or c.args.theta.est.now k 0 + q ≤ c.args.lct = search of_calls in omega arith))
 
-pub preceding-omega-requires : goal.preceding-omega-requires
-preceding-omega-requires c = (overload_walk (given (goal.at.preceding-omega-requires c).Start), c.requires.1, c.requires.2)
+numbers : (c : After-task) → Overflow c.args.lct c.walk-omega.result.lasts (get_or c.args.theta.est.now c.task.result 0)
+numbers c = let past = goal.at.After-task c in rw c.task.ensures (overflow (given past.Start) (stops past.After-walk-omega) refl)
 
-pub of_leaf-est_omega-requires : goal.of_leaf-est_omega-requires
-of_leaf-est_omega-requires c =
-    let past = goal.at.of_leaf-est_omega-requires c in
-    (omega (arith, c.preceding-omega.ensures.small, c.requires.1), (each_there c.preceding-omega.ensures (Known c.args.est.now c.args.durations.now) (given past.Start).white.known).start)
+known : (c : After-task) → let t = c.args.theta in Known t.est.now t.durations.now c.task.result
+known c =
+    let past = goal.at.After-task c in
+    let t = c.args.theta in
+    rw c.task.ensures (each_there (stops past.After-walk-omega) (Known t.est.now t.durations.now) (given past.Start).white.known)
+
+pub offset_bounds-theta-task : goal.offset_bounds-theta-task
+offset_bounds-theta-task c = omega (arith, (known c).task)
+
+pub bounds-theta-task : goal.bounds-theta-task
+bounds-theta-task c = (known c).start
+
+pub overflow_add-delta : goal.overflow_add-delta
+overflow_add-delta c = omega (arith, numbers (goal.at.overflow_add-delta c).After-task)
+
+pub overflow_add-delta-2 : goal.overflow_add-delta-2
+overflow_add-delta-2 c = omega (arith, numbers (goal.at.overflow_add-delta-2 c).After-task)
+
+pub overflow_sub-low : goal.overflow_sub-low
+overflow_sub-low c = omega (arith, numbers (goal.at.overflow_sub-low c).After-task)
+
+pub overflow_add-high : goal.overflow_add-high
+overflow_add-high c = omega (arith, numbers (goal.at.overflow_add-high c).After-task)
 
 pub write_within-requires : goal.write_within-requires
 write_within-requires c =
-    let past = goal.at.write_within-requires c in (
-      white_writable c.preceding-omega.ensures (given past.Start).white (omega (arith, numbers past.After-of_leaf-est_omega)) (given past.Start).room,
-      omega (arith, c.preceding-omega.ensures.small),
-      c.requires.1,
-      c.requires.2,
-    )
+    let past = goal.at.write_within-requires c in
+    let given = given past.Start in
+    (white_writable (stops past.After-walk-omega) given.white (omega (arith, numbers past.After-task)) given.room, omega (arith, c.walk-omega.ensures.small), c.args.theta.tasks)
 
 pub returns : goal.returns
 returns c =
     let past = goal.at.returns c in
-    let a = c.args in
-    rw (all_leaves (white past.Start) (tasks past.Start) a.n)
-    (conflict_stored a.est.now (given past.Start).white.total a.lct (overload_stops (given past.Start) c.preceding-omega.ensures) c.of_leaf-est_omega.ensures c.write_within.ensures)
-
-pub overflow_add-delta : goal.overflow_add-delta
-overflow_add-delta c = omega (arith, numbers (goal.at.overflow_add-delta c).After-of_leaf-est_omega)
-
-pub overflow_add-delta-2 : goal.overflow_add-delta-2
-overflow_add-delta-2 c = omega (arith, numbers (goal.at.overflow_add-delta-2 c).After-of_leaf-est_omega)
-
-pub overflow_sub-delta : goal.overflow_sub-delta
-overflow_sub-delta c = omega (arith, numbers (goal.at.overflow_sub-delta c).After-of_leaf-est_omega)
-
-pub overflow_sub-low : goal.overflow_sub-low
-overflow_sub-low c = omega (arith, numbers (goal.at.overflow_sub-low c).After-of_leaf-est_omega)
-
-pub overflow_add-high : goal.overflow_add-high
-overflow_add-high c = omega (arith, numbers (goal.at.overflow_add-high c).After-of_leaf-est_omega)
+    let t = c.args.theta in
+    rw (all_leaves (white_of t) (task_at t) t.n)
+    (conflict_stored t.est.now (given past.Start).white.total c.args.lct (stops past.After-walk-omega) (ap (λ (k : ℕ). get_or t.est.now k 0) c.task.ensures) c.write_within.ensures)

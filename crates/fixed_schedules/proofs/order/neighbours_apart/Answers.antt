@@ -1,10 +1,7 @@
-use mathlib.Core.Path.{◌≡◌, sym, ap, ◌∙◌}
-use Prim.Native.Nat.{ℕ, ◌+◌, ◌-◌, ◌≤◌, ◌<◌}
-use native.Mathlib.Omega.{arith}
-use lib.Dec.{leb}
-use lib.ListN.{length, get_or}
+use Rattle.std.proofs.Common.{rules, arith, ◌≡◌, ◌∙◌, sym, ap, ℕ, ◌+◌, ◌-◌, ◌≤◌, ◌<◌, leb, List, length, get_or, drop, add-zero}
+use Rattle.std.proofs.lemmas.Iterator.{window_more}
+use Rattle.std.specs.Slice.Iter.{windows_rest}
 use borrow.Author.Tests.{le-leb, lt-leb}
-use borrow.Author.Rules.{rules}
 use Rattle.integers.specs.Limits.{TASKS}
 use Rattle.integers.specs.Moments.{moment, zero_at}
 use Rattle.integers.specs.Tests.{all_below}
@@ -13,83 +10,95 @@ use Rattle.integers.proofs.Tests.{all_none, all_more, all_broken}
 use Rattle.fixed_schedules.specs.FixedSchedules.{start_at}
 use Rattle.fixed_schedules.specs.Neighbours.{neighbours_are_apart}
 use Rattle.fixed_schedules.proofs.ScheduleOrder.{start_moment, ends_by_test}
-use Rattle.fixed_schedules.proofs.order.neighbours_apart.Goals.{After-moment_of, After-moment_of-in-loop-i, In-loop-i}
+use Rattle.fixed_schedules.proofs.order.neighbours_apart.Goals.{After-moment_of, After-moment_of-in-loop-neighbours, In-Some}
 use Rattle.fixed_schedules.proofs.order.neighbours_apart.Goals as goal
 
-abbrev task_of : In-loop-i → ℕ
-task_of c = get_or c.args.order.now c.loop-i.i 0
+-- The window w at place i has the tasks of this place and the next, and the iterator goes on to the next place.
+record Turn (order : List ℕ) (i : ℕ) (w next : List ℕ) : Type 0 where
+  inside : i + 1 < length order
+  first : get_or w 0 0 ≡ get_or order i 0
+  second : get_or w 1 0 ≡ get_or order (i + 1) 0
+  on : length order - length next ≡ i + 1
+  within : length next ≤ length order
+  rest : next ≡ drop (length order - length next) order
 
-abbrev next_of : In-loop-i → ℕ
-next_of c = get_or c.args.order.now (c.loop-i.i + 1) 0
+-- the window's place in the order
+abbrev place_of : In-Some → ℕ
+place_of c = length c.args.order.now - length (windows_rest c.loop-neighbours.neighbours-iterator)
 
--- they are tasks, of which there are few
-small : (c : In-loop-i) → let n = length c.args.earliest.now in (task_of c < n) × (next_of c < n) × (n ≤ TASKS)
+turn : (c : In-Some) → Turn c.args.order.now (place_of c) c.in-Some.neighbours.now (windows_rest c.next.new.self)
+turn c =
+    let order = c.args.order.now in
+    let v = c.loop-neighbours.invariant in
+    let (one_less, rest, left, at) = window_more order c.loop-neighbours.neighbours-iterator c.next.new.self _ _ c.in-Some.is c.next.ensures.steps (omega (arith, v.pairs)) v.within v.rest in record {
+      inside = omega (arith, left, v.within, v.pairs);
+      first = at 0 0 (omega (arith, v.pairs)) ∙ ap (λ (t : ℕ). get_or order t 0) (add-zero (place_of c));
+      second = at 1 0 (omega (arith, v.pairs));
+      on = omega (arith, one_less, left, v.within, v.pairs);
+      within = omega (arith, one_less, v.within);
+      rest = rest;
+    }
+
+-- its tasks are few
+small : (c : In-Some) → let n = length c.args.earliest.now in
+    let w = c.in-Some.neighbours.now in
+    (get_or w 0 0 < n) × (get_or w 1 0 < n) × (n ≤ TASKS)
 small c =
-    (c.requires.tasks c.loop-i.i (omega arith), c.requires.tasks (c.loop-i.i + 1) (omega arith), c.requires.sortable.few)
+    let t = turn c in
+    (rw t.first (c.requires.tasks (place_of c) (omega (arith, t.inside))), rw t.second (c.requires.tasks (place_of c + 1) t.inside), c.requires.sortable.few)
 
 -- the moment of the first one's start
-moment_is : (c : After-moment_of) → c.moment_of.result ≡ moment zero_at (start_at c.args.earliest.now (get_or c.args.order.now c.loop-i.i 0))
+moment_is : (c : After-moment_of) → c.moment_of.result ≡ moment zero_at (start_at c.args.earliest.now (get_or c.in-Some.neighbours.now 0 0))
 moment_is c = search (moment_word, rules)
 
 -- what the test of the two says
-seen : (c : After-moment_of-in-loop-i) → let a = c.args in
-    leb (c.moment_of.result + get_or a.durations.now (get_or a.order.now c.loop-i.i 0) 0) c.moment_of-in-loop-i.result ≡ neighbours_are_apart a.order.now a.earliest.now a.durations.now
-    c.loop-i.i
+seen : (c : After-moment_of-in-loop-neighbours) → let a = c.args in
+    leb (c.moment_of.result + get_or a.durations.now (get_or c.in-Some.neighbours.now 0 0) 0) c.moment_of-in-loop-neighbours.result
+    ≡ neighbours_are_apart a.order.now a.earliest.now a.durations.now (place_of (goal.at.After-moment_of-in-loop-neighbours c).In-Some)
 seen c =
     let es = c.args.earliest.now in
-    let j = get_or c.args.order.now c.loop-i.i 0 in
-    let k = get_or c.args.order.now (c.loop-i.i + 1) 0 in
-    let d = get_or c.args.durations.now j 0 in
-    let q = small (goal.at.After-moment_of-in-loop-i c).In-loop-i in
-    let first : c.moment_of.result ≡ moment zero_at (start_at es j) = search (moment_word, rules) in
-    let second : c.moment_of-in-loop-i.result ≡ moment zero_at (start_at es k) = search (moment_word, rules) in
-    ap (λ (m : ℕ). leb (m + d) c.moment_of-in-loop-i.result) first
-    ∙ ap (λ (m : ℕ). leb (moment zero_at (start_at es j) + d) m) second
-    ∙ ends_by_test (start_at es j) (start_at es k) d (c.requires.sortable.starts j q.0) (c.requires.sortable.starts k q.1)
+    let w = c.in-Some.neighbours.now in
+    let d = get_or c.args.durations.now (get_or w 0 0) 0 in
+    let t = turn (goal.at.After-moment_of-in-loop-neighbours c).In-Some in
+    let q = small (goal.at.After-moment_of-in-loop-neighbours c).In-Some in
+    let first : c.moment_of.result ≡ moment zero_at (start_at es (get_or w 0 0)) = search (moment_word, rules) in
+    let second : c.moment_of-in-loop-neighbours.result ≡ moment zero_at (start_at es (get_or w 1 0)) = search (moment_word, rules) in
+    rw (first, second, ends_by_test (start_at es (get_or w 0 0)) (start_at es (get_or w 1 0)) d (c.requires.sortable.starts _ q.0) (c.requires.sortable.starts _ q.1), t.first, t.second)
+
+pub loop-neighbours-init : goal.loop-neighbours-init
+loop-neighbours-init c =
+    let rest : windows_rest c.into_iter-neighbours-iterator.result ≡ c.args.order.now = search rules in
+    let none : length c.args.order.now - length (windows_rest c.into_iter-neighbours-iterator.result) ≡ 0 = omega (arith, ap length rest) in
+    record { pairs = search rules; within = omega (arith, ap length rest); rest = rw none rest; passed = omega (arith, none); apart = rw none (all_none _) }
 
 pub overflow_add-end : goal.overflow_add-end
 overflow_add-end c =
-    let j = task_of (goal.at.overflow_add-end c).In-loop-i in
-    let q = (small (goal.at.overflow_add-end c).In-loop-i).0 in
+    let j = get_or c.in-Some.neighbours.now 0 0 in
+    let q = (small (goal.at.overflow_add-end c).In-Some).0 in
     record { fits = omega (arith, moment_is (goal.at.overflow_add-end c).After-moment_of, start_moment (start_at c.args.earliest.now j) (c.requires.sortable.starts j q), c.requires.durations j q) }
+
+pub offset_bounds-earliest-next : goal.offset_bounds-earliest-next
+offset_bounds-earliest-next c = omega (arith, small (goal.at.offset_bounds-earliest-next c).In-Some)
+
+pub bounds-earliest-next : goal.bounds-earliest-next
+bounds-earliest-next c = (small (goal.at.bounds-earliest-next c).In-Some).1
 
 pub returns-then-end-moment_of : goal.returns-then-end-moment_of
 returns-then-end-moment_of c =
-    sym (all_broken _ _ c.loop-i.i (omega (arith, c.loop-i-test.true)) (sym (seen (goal.at.returns-then-end-moment_of c).After-moment_of-in-loop-i) ∙ lt-leb _ _ c.if-end-moment_of.true))
+    let t = turn (goal.at.returns-then-end-moment_of c).In-Some in
+    sym (all_broken _ _ _ (omega (arith, t.inside)) (sym (seen (goal.at.returns-then-end-moment_of c).After-moment_of-in-loop-neighbours) ∙ lt-leb _ _ c.if-end-moment_of.true))
 
-pub loop-i-preserved : goal.loop-i-preserved
-loop-i-preserved c =
-    (omega (arith, c.loop-i-test.true), all_more _ _ c.loop-i.invariant.1 (sym (seen (goal.at.loop-i-preserved c).After-moment_of-in-loop-i) ∙ le-leb _ _ c.if-end-moment_of.false))
+pub loop-neighbours-preserved : goal.loop-neighbours-preserved
+loop-neighbours-preserved c =
+    let t = turn (goal.at.loop-neighbours-preserved c).In-Some in
+    let apart = sym (seen (goal.at.loop-neighbours-preserved c).After-moment_of-in-loop-neighbours) ∙ le-leb _ _ c.if-end-moment_of.false in
+    record { pairs = search rules; within = t.within; rest = t.rest; passed = omega (arith, t.on, t.inside); apart = rw t.on (all_more _ _ c.loop-neighbours.invariant.apart apart) }
 
 pub returns : goal.returns
 returns c =
-    let args = c.args in
-    let e : length args.earliest.now - 1 ≡ c.loop-i.i = omega (arith, c.loop-i.invariant.0, c.loop-i-test.false) in
-    sym (ap (all_below (neighbours_are_apart args.order.now args.earliest.now args.durations.now)) e ∙ c.loop-i.invariant.1)
-
-pub loop-i-init : goal.loop-i-init
-loop-i-init c = (omega arith, all_none _)
-
-pub bounds-order-i : goal.bounds-order-i
-bounds-order-i c = omega (arith, small (goal.at.bounds-order-i c).In-loop-i)
-
-pub bounds-order-i-in-loop-i : goal.bounds-order-i-in-loop-i
-bounds-order-i-in-loop-i c = omega (arith, small (goal.at.bounds-order-i-in-loop-i c).In-loop-i)
-
-pub offset_bounds-earliest-task : goal.offset_bounds-earliest-task
-offset_bounds-earliest-task c = omega (arith, small (goal.at.offset_bounds-earliest-task c).In-loop-i)
-
-pub bounds-earliest-task : goal.bounds-earliest-task
-bounds-earliest-task c = (small (goal.at.bounds-earliest-task c).In-loop-i).0
-
-pub offset_bounds-durations-task : goal.offset_bounds-durations-task
-offset_bounds-durations-task c = omega (arith, small (goal.at.offset_bounds-durations-task c).In-loop-i)
-
-pub bounds-durations-task : goal.bounds-durations-task
-bounds-durations-task c = omega (arith, small (goal.at.bounds-durations-task c).In-loop-i)
-
-pub offset_bounds-earliest-next : goal.offset_bounds-earliest-next
-offset_bounds-earliest-next c = omega (arith, small (goal.at.offset_bounds-earliest-next c).In-loop-i)
-
-pub bounds-earliest-next : goal.bounds-earliest-next
-bounds-earliest-next c = (small (goal.at.bounds-earliest-next c).In-loop-i).1
+    let a = c.args in
+    let v = c.loop-neighbours.invariant in
+    let left = windows_rest c.loop-neighbours.neighbours-iterator in
+    let few : length left < 2 = search rules in
+    let e : length a.order.now - 1 ≡ length a.order.now - length left = omega (arith, v.passed, v.within) in
+    sym (ap (all_below (neighbours_are_apart a.order.now a.earliest.now a.durations.now)) e ∙ v.apart)

@@ -1,8 +1,9 @@
 -- `run_in_mirror`: the ranges are mirrored, the core runs, and what it left of the earliest starts is mirrored back.
-use mathlib.Core.Path.{◌≡◌, sym, ◌∙◌}
+use mathlib.Core.Path.{◌≡◌, ◌∙◌}
 use mathlib.Core.List.{List, ◌++◌}
 use Prim.Native.Nat.{ℕ}
 use native.Mathlib.Omega.{arith}
+use borrow.Author.Rules.{rules}
 use lib.IntN.{ℤ, pos}
 use lib.ListN.{length, take, drop, replicate, length-replicate}
 use lib.Seq.{length-take-le}
@@ -12,15 +13,19 @@ use Rattle.mirrored.proofs.MirroredEnds.{Fronted, fronted, latest_mirrorable, ea
 use Rattle.mirrored.proofs.mirrored_propagator.run_in_mirror.Goals.{After-run_accepted-finished, After-mirror_starts-2, Start}
 use Rattle.mirrored.proofs.mirrored_propagator.run_in_mirror.Goals as goal
 
+-- the durations have TASKS places
+long : (s : Start) → length s.args.«record».now.durations ≡ TASKS
+long s = search rules
+
 -- an array as it is made
 abbrev zeros : List ℤ
 zeros = replicate TASKS (pos 0)
 
-whole_front : (s : Start) → length (take s.args.n zeros) ≡ s.args.n
-whole_front s = length-take-le s.args.n zeros (omega (arith, length-replicate TASKS (pos 0), s.requires.2.lawful.few))
+whole_front : (s : Start) → length (take s.args.«record».now.count zeros) ≡ s.args.«record».now.count
+whole_front s = length-take-le s.args.«record».now.count zeros (omega (arith, length-replicate TASKS (pos 0), s.requires.lawful.few))
 
 abbrev n : After-mirror_starts-2 → ℕ
-n c = c.args.n
+n c = c.args.«record».now.count
 
 abbrev from : After-mirror_starts-2 → List ℤ
 from c = c.mirror_starts.new.out ++ drop (n c) zeros
@@ -30,15 +35,15 @@ to c = c.mirror_starts-2.new.out ++ drop (n c) zeros
 
 -- the arrays' fronts are the mirrored starts
 from_made : (c : After-mirror_starts-2) → Fronted (n c) c.mirror_starts.new.out (from c)
-from_made c = fronted (n c) c.mirror_starts.new.out zeros c.requires.2.lawful.few (length-replicate TASKS (pos 0)) c.mirror_starts.auto.out
+from_made c = fronted (n c) c.mirror_starts.new.out zeros c.requires.lawful.few (length-replicate TASKS (pos 0)) c.mirror_starts.auto.out
 
 to_made : (c : After-mirror_starts-2) → Fronted (n c) c.mirror_starts-2.new.out (to c)
-to_made c = fronted (n c) c.mirror_starts-2.new.out zeros c.requires.2.lawful.few (length-replicate TASKS (pos 0)) c.mirror_starts-2.auto.out
+to_made c = fronted (n c) c.mirror_starts-2.new.out zeros c.requires.lawful.few (length-replicate TASKS (pos 0)) c.mirror_starts-2.auto.out
 
-from_is : (c : After-mirror_starts-2) → take (n c) (from c) ≡ starts_mirrored (take (length c.args.latest.now) c.args.durations.now) c.args.latest.now
+from_is : (c : After-mirror_starts-2) → take (n c) (from c) ≡ starts_mirrored (take (length c.args.latest.now) c.args.«record».now.durations) c.args.latest.now
 from_is c = (from_made c).front ∙ c.mirror_starts.ensures
 
-to_is : (c : After-mirror_starts-2) → take (n c) (to c) ≡ starts_mirrored (take (length c.args.earliest.now) c.args.durations.now) c.args.earliest.now
+to_is : (c : After-mirror_starts-2) → take (n c) (to c) ≡ starts_mirrored (take (length c.args.earliest.now) c.args.«record».now.durations) c.args.earliest.now
 to_is c = (to_made c).front ∙ c.mirror_starts-2.ensures
 
 abbrev left : After-run_accepted-finished → List ℤ
@@ -47,53 +52,28 @@ left c = c.run_accepted-finished.new.earliest
 left_made : (c : After-run_accepted-finished) → let i = (goal.at.After-run_accepted-finished c).After-mirror_starts-2 in Fronted (n i) (left c) (left c ++ drop (n i) (from i))
 left_made c =
     let i = (goal.at.After-run_accepted-finished c).After-mirror_starts-2 in
-    fronted (n i) (left c) (from i) c.requires.2.lawful.few (from_made i).long c.run_accepted-finished.auto.earliest
+    fronted (n i) (left c) (from i) c.requires.lawful.few (from_made i).long c.run_accepted-finished.auto.earliest
 
 pub run_accepted-finished-requires : goal.run_accepted-finished-requires
 run_accepted-finished-requires c =
     let past = goal.at.run_accepted-finished-requires c in
-    let p = c.requires in (p.0, p.1, runnable_at p.2 p.1 (from_is past.After-mirror_starts-2) (to_is past.After-mirror_starts-2))
+    runnable_at c.requires (long past.Start) (from_is past.After-mirror_starts-2) (to_is past.After-mirror_starts-2)
 
 pub mirror_starts-requires-3 : goal.mirror_starts-requires-3
 mirror_starts-requires-3 c =
     let past = goal.at.mirror_starts-requires-3 c in
     rw (left_made past.After-run_accepted-finished).front
-    (left_mirrorable c.requires.2 c.requires.1 (from_is past.After-mirror_starts-2) (to_is past.After-mirror_starts-2)
-    (c.run_accepted-finished.ensures c.requires.0) c.args.latest.now c.requires.2.counts.latest)
+    (left_mirrorable c.requires (long past.Start) (from_is past.After-mirror_starts-2) (to_is past.After-mirror_starts-2)
+    c.run_accepted-finished.ensures c.args.latest.now c.requires.counts.latest)
 
 pub returns : goal.returns
-returns c stored =
+returns c =
     let past = goal.at.returns c in
-    let p = c.requires in
-    ran_in_mirror p.2 p.1 (from_is past.After-mirror_starts-2) (to_is past.After-mirror_starts-2) (c.run_accepted-finished.ensures p.0) stored
+    ran_in_mirror c.requires (long past.Start) (from_is past.After-mirror_starts-2) (to_is past.After-mirror_starts-2) c.run_accepted-finished.ensures
     (rw (left_made past.After-run_accepted-finished).front at c.mirror_starts-3.ensures)
 
-pub slice_bounds-mirror_starts-end : goal.slice_bounds-mirror_starts-end
-slice_bounds-mirror_starts-end c = sym (whole_front (goal.at.slice_bounds-mirror_starts-end c).Start)
-
 pub mirror_starts-requires : goal.mirror_starts-requires
-mirror_starts-requires c = latest_mirrorable c.requires.2 c.requires.1 _ (whole_front (goal.at.mirror_starts-requires c).Start)
-
-pub slice_bounds-mirror_starts-end-2 : goal.slice_bounds-mirror_starts-end-2
-slice_bounds-mirror_starts-end-2 c = sym (whole_front (goal.at.slice_bounds-mirror_starts-end-2 c).Start)
+mirror_starts-requires c = latest_mirrorable c.requires (long (goal.at.mirror_starts-requires c).Start) _ (whole_front (goal.at.mirror_starts-requires c).Start)
 
 pub mirror_starts-requires-2 : goal.mirror_starts-requires-2
-mirror_starts-requires-2 c = earliest_mirrorable c.requires.2 c.requires.1 _ (whole_front (goal.at.mirror_starts-requires-2 c).Start)
-
-pub slice_bounds-from-end-2 : goal.slice_bounds-from-end-2
-slice_bounds-from-end-2 c = (from_made (goal.at.slice_bounds-from-end-2 c).After-mirror_starts-2).lent
-
-pub slice_bounds-run_accepted-end : goal.slice_bounds-run_accepted-end
-slice_bounds-run_accepted-end c = (from_made (goal.at.slice_bounds-run_accepted-end c).After-mirror_starts-2).size
-
-pub slice_bounds-to-end-2 : goal.slice_bounds-to-end-2
-slice_bounds-to-end-2 c = (to_made (goal.at.slice_bounds-to-end-2 c).After-mirror_starts-2).lent
-
-pub slice_bounds-run_accepted-end-2 : goal.slice_bounds-run_accepted-end-2
-slice_bounds-run_accepted-end-2 c = (to_made (goal.at.slice_bounds-run_accepted-end-2 c).After-mirror_starts-2).size
-
-pub slice_bounds-from-end-3 : goal.slice_bounds-from-end-3
-slice_bounds-from-end-3 c = (left_made (goal.at.slice_bounds-from-end-3 c).After-run_accepted-finished).lent
-
-pub slice_bounds-mirror_starts-end-3 : goal.slice_bounds-mirror_starts-end-3
-slice_bounds-mirror_starts-end-3 c = (left_made (goal.at.slice_bounds-mirror_starts-end-3 c).After-run_accepted-finished).size
+mirror_starts-requires-2 c = earliest_mirrorable c.requires (long (goal.at.mirror_starts-requires-2 c).Start) _ (whole_front (goal.at.mirror_starts-requires-2 c).Start)

@@ -1,17 +1,15 @@
-use mathlib.Core.Path.{◌≡◌, refl, sym, ap, ◌∙◌}
+use mathlib.Core.Path.{refl, sym, ap, ◌∙◌}
 use mathlib.Core.List.{List, ◌++◌}
-use Prim.Native.Nat.{ℕ}
 use native.Mathlib.Omega.{arith}
 use Rattle.scheduling.specs.Scheduling.{Atom}
 use Rattle.scheduling.specs.Words.{atom_words}
 use Rattle.runs.proofs.Mirrored.{atoms_begin}
-use Rattle.runs.specs.MirroredWords.{atoms_to}
 use Rattle.mirrored.proofs.MirroredLoops.{kind_mirrorable, value_mirrorable, atom_mirrored}
 use borrow.Author.Rules.{rules}
 use Rattle.mirrored.proofs.mirrored_time.mirror_atoms.Goals as goal
 
 pub loop-k-init : goal.loop-k-init
-loop-k-init c = record { mirrorable = c.requires; mirrored = λ h. h.words_are ∙ ap (λ (l : List Atom). atom_words l ++ h.tail) (sym (atoms_begin h.ds h.atoms)); small = omega arith; size = refl }
+loop-k-init c = record { mirrorable = c.requires; mirrored = λ h. h.words_are ∙ ap (λ (l : List Atom). atom_words l ++ h.tail) (sym (atoms_begin h.ds h.atoms)); size = refl }
 
 pub mirror_kind-requires : goal.mirror_kind-requires
 mirror_kind-requires c = let l = c.loop-k in let v = l.invariant in
@@ -32,12 +30,5 @@ loop-k-preserved c =
       mirrorable = v.mirrorable;
       mirrored = λ h. atom_mirrored h l.atoms l.k (omega arith) (v.mirrored h) c.kind_at.ensures c.mirror_kind.ensures c.variable_at.ensures
           c.value_at.ensures c.mirror_word.ensures;
-      small = omega arith;
       size = search rules;
     }
-
-pub returns : goal.returns
-returns c =
-    let l = c.loop-k in
-    let e : l.k ≡ c.args.count = omega (arith, l.invariant.small) in
-    λ h. l.invariant.mirrored h ∙ ap (λ (i : ℕ). atom_words (atoms_to h.ds i h.atoms) ++ h.tail) e

@@ -1,7 +1,7 @@
 -- After j turns the bounds of the first j posts are mirrored, and all other words are unchanged.
 use mathlib.Core.Path.{◌≡◌}
 use mathlib.Core.List.{List, ◌++◌}
-use Prim.Native.Nat.{ℕ, ◌-◌, ◌≤◌}
+use Prim.Native.Nat.{ℕ}
 use lib.IntN.{ℤ}
 use lib.ListN.{length}
 use Rattle.runs.specs.Words.{post_words}
@@ -13,11 +13,7 @@ use Rattle.mirrored.proofs.mirrored_time.mirror_posts.Given as goal
 pub record Loop (old : List ℤ) (count : ℕ) (array : List ℕ) (words : List ℤ) (j : ℕ) : Type 0 where
   pub mirrorable : PostsMirrorable old count array
   pub mirrored : (h : PostsMirrorable old count array) → words ≡ post_words 0 (posts_to h.ds j h.posts) ++ h.tail
-  pub small : j ≤ count
   pub size : length words ≡ length old
 
 abbrev pub invariant-loop-j : goal.invariant-loop-j
 invariant-loop-j l = Loop l.initial.posts l.count l.durations l.posts l.j
-
-abbrev pub decreases-loop-j : goal.decreases-loop-j
-decreases-loop-j l = l.count - l.j

@@ -1,11 +1,10 @@
-use mathlib.Core.Path.{◌≡◌, refl, sym, ap, ap₂, subst, ◌∙◌}
+use mathlib.Core.Path.{◌≡◌, refl, sym, ap, ap₂, ◌∙◌}
 use Prim.Native.Nat.{ℕ, ◌+◌}
 use native.Mathlib.Omega.{arith}
-use lib.IntN.{ℤ, pos}
+use lib.IntN.{pos}
 use lib.ListN.{length, get_or, take}
 use lib.Seq.{get_or-take, length-take-le}
 use mir.Syntax.{w32}
-use mir.Val.{SFits}
 use Rattle.integers.specs.FilledLists.{filled}
 use Rattle.integers.proofs.FilledLists.{filled_none, filled_store, filled_length}
 use Rattle.integers.proofs.Ints.{back_of}
@@ -17,12 +16,6 @@ use Rattle.mirrored.proofs.mirrored_time.mirror_starts.Goals as goal
 
 pub loop-k-init : goal.loop-k-init
 loop-k-init c = let a = c.args in (omega arith, refl, sym (filled_none (mirrored_at a.starts.now a.durations.now) a.out.now))
-
-pub mirror_start-requires : goal.mirror_start-requires
-mirror_start-requires c =
-    let k = c.loop-k.k in
-    subst (λ (z : ℤ). SFits w32 (start_mirrored (get_or c.args.durations.now k 0) z)) (sym (back_of w32 (get_or c.args.starts.now k (pos 0)) (search rules)))
-    (c.requires.fits k (omega arith))
 
 pub loop-k-preserved : goal.loop-k-preserved
 loop-k-preserved c =

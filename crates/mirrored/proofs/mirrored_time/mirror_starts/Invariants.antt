@@ -1,6 +1,6 @@
 -- After k turns the first k places hold the mirrored starts, and the others are unchanged.
 use mathlib.Core.Path.{◌≡◌}
-use Prim.Native.Nat.{ℕ, ◌-◌, ◌≤◌}
+use Prim.Native.Nat.{ℕ, ◌≤◌}
 use mathlib.Core.List.{List}
 use lib.IntN.{ℤ, pos}
 use lib.ListN.{length, get_or, take}
@@ -14,6 +14,3 @@ mirrored_at starts durations k = start_mirrored (get_or (take (length starts) du
 
 abbrev pub invariant-loop-k : goal.invariant-loop-k
 invariant-loop-k l = (l.k ≤ length l.starts) × (length l.out ≡ length l.initial.out) × (l.out ≡ filled (mirrored_at l.starts l.durations) l.k l.initial.out)
-
-abbrev pub decreases-loop-k : goal.decreases-loop-k
-decreases-loop-k l = length l.starts - l.k

@@ -1,10 +1,6 @@
 -- The outcome and the posts say how many words there are; those of the posts are mirrored first, then those of the atoms.
-use Rattle.mirrored.proofs.MirroredTrace.{atoms_countable, posts_mirrorable, atoms_mirrorable, post_count, words_mirrored}
+use Rattle.mirrored.proofs.MirroredTrace.{atoms_countable, atoms_mirrorable, post_count, words_mirrored}
 use Rattle.mirrored.proofs.mirrored_time.mirror_words.Goals as goal
-
-pub mirror_posts-requires : goal.mirror_posts-requires
-mirror_posts-requires c =
-    posts_mirrorable c.requires c.posts_of-count.result (post_count c.requires c.posts_of-count.result c.posts_of-count.ensures)
 
 pub mirror_atoms-requires : goal.mirror_atoms-requires
 mirror_atoms-requires c =

@@ -1,33 +1,18 @@
--- By creation's answer: its number is what is shown, or the run on the record that it made.
-use mathlib.Core.Path.{◌≡◌, refl, sym, subst}
+-- What a run on the record that creation made leaves is what is shown.
+use mathlib.Core.Path.{subst}
 use mathlib.Core.Logic.{◌⊎◌}
 use Prim.Native.Nat.{ℕ}
 use native.Mathlib.Omega.{arith}
-use lib.ListN.{length, take}
-use lib.Seq.{length-take-le}
-use Rattle.integers.specs.Limits.{TASKS}
 use Rattle.runs.specs.Traces.{Trace}
-use Rattle.runs.specs.declared.outcome.Outcome.TheVariants as outcome
 use Rattle.plan_cli.specs.RunSlices.{Shown}
-use Rattle.plan_cli.proofs.PrintedSlices.{accepted_planned, refused_planned}
-use borrow.Author.Rules.{rules}
+use Rattle.plan_cli.proofs.PrintedSlices.{shows, accepted_planned}
 use Rattle.plan_cli.proofs.plan.plan.Goals as goal
 
-pub slice_bounds-create-end : goal.slice_bounds-create-end
-slice_bounds-create-end c =
-    let all : length c.args.durations ≡ TASKS = search rules in
-    sym (length-take-le _ _ (omega (arith, all, c.requires.few)))
-
-pub returns-in-Accepted : goal.returns-in-Accepted
-returns-in-Accepted c =
+pub returns-in-Ok : goal.returns-in-Ok
+returns-in-Ok c =
     let a = c.args in
-    let r = c.run_on.result in
-    subst (λ (what : ℕ ⊎ Trace). Shown what r.outcome c.run_on.new.posts c.run_on.new.atoms (take a.n r.starts))
-    (accepted_planned (take a.n a.earliest) (take a.n a.latest) (take a.n a.durations) c.create-created.result c.create-created.ensures c.in-Accepted.is)
-    c.run_on.ensures
-
-pub returns-in-Refused : goal.returns-in-Refused
-returns-in-Refused c =
-    let a = c.args in
-    subst (λ (what : ℕ ⊎ Trace). Shown what (outcome.Refused c.in-Refused.number) a.posts.now a.atoms.now (take a.n a.earliest))
-    (refused_planned (take a.n a.earliest) (take a.n a.latest) (take a.n a.durations) c.create-created.result c.create-created.ensures c.in-Refused.number c.in-Refused.is) refl
+    let ran = c.propagate in
+    subst (λ (what : ℕ ⊎ Trace). Shown what ran.result.outcome ran.new.posts ran.new.atoms ran.new.earliest)
+    (accepted_planned a.earliest.now a.latest.now a.durations.now c.create-created.result c.create-created.ensures c.in-Ok.is)
+    (shows c.create-created.result.«record» a.earliest.now a.latest.now a.posts.now a.atoms.now c.requires.post_room c.requires.atom_room ran.result
+    ran.new.earliest ran.new.posts ran.new.atoms (omega (arith, ran.auto.earliest, c.requires.few)) ran.ensures)

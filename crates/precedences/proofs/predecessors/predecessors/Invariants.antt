@@ -1,7 +1,7 @@
 -- The invariant: the first j places say whether their task comes before task i, and the others are false.
 use mathlib.Core.Path.{◌≡◌}
 use mathlib.Core.Bool.{false}
-use Prim.Native.Nat.{◌+◌, ◌-◌, ◌≤◌}
+use Prim.Native.Nat.{◌+◌}
 use lib.ListN.{get_or, replicate}
 use Rattle.integers.specs.Limits.{TASKS}
 use Rattle.integers.specs.FilledLists.{filled}
@@ -9,7 +9,4 @@ use Rattle.precedences.specs.PredecessorArrays.{precedes_at}
 use Rattle.precedences.proofs.predecessors.predecessors.Given as goal
 
 abbrev pub invariant-loop-j : goal.invariant-loop-j
-invariant-loop-j l = (l.j ≤ l.n) × (l.end ≡ get_or l.est l.i 0 + get_or l.durations l.i 0) × (l.before ≡ filled (precedes_at l.est l.lst l.durations l.i) l.j (replicate TASKS false))
-
-abbrev pub decreases-loop-j : goal.decreases-loop-j
-decreases-loop-j l = l.n - l.j
+invariant-loop-j l = (l.end ≡ get_or l.m.est l.i 0 + get_or l.m.durations l.i 0) × (l.before ≡ filled (precedes_at l.m l.i) l.j (replicate TASKS false))

@@ -10,18 +10,18 @@ use Rattle.propagator.proofs.disjunctive_propagator.candidate.Goals.{After-excee
 use Rattle.propagator.proofs.disjunctive_propagator.candidate.Goals as goal
 
 -- the test is the definition's
-tested : (x : After-exceeds) → let a = x.args in (h : Held a.size.inner a.nodes.now) → x.exceeds.result ≡ exceeds (ect_bar_of h.J h.est_order h.leaves) a.lct
-tested x h = let a = x.args in x.exceeds.ensures ∙ ap (λ (o : Option ℕ). exceeds o a.lct) (x.ect_bar-ect_bar.ensures a.size.inner h)
+tested : (x : After-exceeds) → let a = x.args in (h : Held a.tasks.now.size.inner a.nodes.now) → x.exceeds.result ≡ exceeds (ect_bar_of h.J h.est_order h.leaves) a.lct
+tested x h = let a = x.args in x.exceeds.ensures ∙ ap (λ (o : Option ℕ). exceeds o a.lct) (x.ect_bar.ensures a.tasks.now.size.inner h)
 
 pub returns-then-not-exceeds : goal.returns-then-not-exceeds
 returns-then-not-exceeds c = λ h z.
     let a = c.args in
-    candidate_none a.reverse_mapping.now a.lct (ect_bar_of h.J h.est_order h.leaves) (responsible h.J h.est_order h.leaves)
+    candidate_none a.tasks.now.reverse_mapping.now a.lct (ect_bar_of h.J h.est_order h.leaves) (responsible h.J h.est_order h.leaves)
     (sym (tested (goal.at.returns-then-not-exceeds c).After-exceeds h) ∙ c.if-not-exceeds.true)
 
 pub returns : goal.returns
 returns c = λ h z.
     let a = c.args in
     c.responsible_ect_bar.ensures h z
-    ∙ candidate_some a.reverse_mapping.now a.lct (ect_bar_of h.J h.est_order h.leaves) (responsible h.J h.est_order h.leaves)
+    ∙ candidate_some a.tasks.now.reverse_mapping.now a.lct (ect_bar_of h.J h.est_order h.leaves) (responsible h.J h.est_order h.leaves)
     (sym (tested (goal.at.returns c).After-exceeds h) ∙ c.if-not-exceeds.false)

@@ -2,32 +2,28 @@
 use mathlib.Core.Path.{◌≡◌}
 use mathlib.Core.Bool.{Bool}
 use mathlib.Core.List.{List}
-use Prim.Native.Nat.{ℕ, ◌-◌, ◌<◌}
+use Prim.Native.Nat.{ℕ, ◌<◌}
 use lib.IntN.{ℤ}
 use lib.ListN.{length}
-use Rattle.trees.specs.declared.complete_tree.TreeSize.{TreeSize}
+use Rattle.propagator.specs.declared.task_arrays.TaskArrays.{TaskArrays}
 use Rattle.propagator.specs.declared.disjunctive_propagator.Written.{Written}
 use Rattle.propagator.specs.EdgeFinding.{EdgeFindable}
 use Rattle.propagator.proofs.OuterLoop.{Level}
 use Rattle.propagator.proofs.disjunctive_propagator.edge_finding.Given as goal
 
 -- the level that the loop stands at; the slices keep their lengths
-pub record Loop (size : TreeSize) (ect : ℕ) (past : Bool) (n : ℕ) (nodes₀ : List ℕ) (earliest₀ posts₀ atoms₀ : List ℤ)
-    (est lst lct durations reverse_mapping sorted_tasks mapping nodes : List ℕ) (earliest posts atoms : List ℤ)
+pub record Loop (tasks : TaskArrays) (ect : ℕ) (past : Bool) (n : ℕ) (nodes₀ : List ℕ) (earliest₀ posts₀ atoms₀ : List ℤ)
+    (nodes : List ℕ) (earliest posts atoms : List ℤ)
     (w : Written) (last : ℕ) (joined : Bool) (index : ℕ) : Type 0 where
-  pub findable : EdgeFindable size ect past nodes₀ earliest₀ posts₀ atoms₀ est lst lct durations reverse_mapping sorted_tasks mapping
-  pub level : (s : EdgeFindable size ect past nodes₀ earliest₀ posts₀ atoms₀ est lst lct durations reverse_mapping sorted_tasks mapping) → Level s index nodes earliest posts atoms w last joined
-  pub count : n ≡ size.leaves
-  pub small : index < size.leaves
+  pub findable : EdgeFindable tasks ect past nodes₀ earliest₀ posts₀ atoms₀
+  pub level : (s : EdgeFindable tasks ect past nodes₀ earliest₀ posts₀ atoms₀) → Level s index nodes earliest posts atoms w last joined
+  pub count : n ≡ tasks.size.leaves
+  pub small : index < tasks.size.leaves
   pub starts_length : length earliest ≡ length earliest₀
   pub posts_length : length posts ≡ length posts₀
   pub atoms_length : length atoms ≡ length atoms₀
 
 abbrev pub invariant-loop-index : goal.invariant-loop-index
 invariant-loop-index l =
-    Loop l.size l.ect l.past l.n l.initial.nodes l.initial.earliest l.initial.posts l.initial.atoms
-    l.est l.lst l.lct l.durations l.reverse_mapping l.sorted_tasks l.mapping l.nodes l.earliest l.posts l.atoms l.w l.last_ect_bar l.joined l.index
-
-abbrev pub decreases-loop-index : goal.decreases-loop-index
-decreases-loop-index l =
-    l.size.leaves - l.index
+    Loop l.tasks l.ect l.past l.n l.initial.nodes l.initial.earliest l.initial.posts l.initial.atoms
+    l.nodes l.earliest l.posts l.atoms l.w l.last_ect_bar l.joined l.index

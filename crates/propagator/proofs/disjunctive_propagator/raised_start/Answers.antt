@@ -6,4 +6,4 @@ use Rattle.trees.specs.Ects.{raised_to}
 use Rattle.propagator.proofs.disjunctive_propagator.raised_start.Goals as goal
 
 pub returns : goal.returns
-returns c = λ inner h. c.raised.ensures ∙ ap (λ (o : Option ℕ). raised_to c.args.start o) (c.ect-ect.ensures inner h)
+returns c = λ inner h. c.raised.ensures ∙ ap (λ (o : Option ℕ). raised_to c.args.start o) (c.ect.ensures inner h)

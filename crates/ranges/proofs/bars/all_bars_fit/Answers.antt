@@ -1,15 +1,11 @@
--- Where the bars of range i do not fit, those of all ranges do not; where no range is left, they all do.
-use mathlib.Core.Path.{sym, ◌∙◌}
-use native.Mathlib.Omega.{arith}
-use Rattle.integers.proofs.Bools.{and_left, and_is}
-use Rattle.ranges.proofs.BarsFrom.{all_on, all_end}
+-- Where the closure answers for each range whether its bars fit, `all` answers for all of them.
+use mathlib.Core.Path.{◌∙◌}
+use Rattle.std.proofs.Common.{rules, tests}
+use Rattle.std.proofs.lemmas.Iterator.{YieldsList-from_slice}
+use Rattle.std.proofs.lemmas.Iterator.Search.{all_from_yields_List}
+use Rattle.ranges.specs.Bars.{bars_are_fit}
+use Rattle.ranges.proofs.BarsFrom.{all_is}
 use Rattle.ranges.proofs.bars.all_bars_fit.Goals as goal
 
-pub returns-then-not-bars_fit : goal.returns-then-not-bars_fit
-returns-then-not-bars_fit c = sym (sym c.loop-i.invariant.1 ∙ all_on c.args.ranges.now c.loop-i.i _ c.loop-i-test.true ∙ and_left _ _ (sym c.bars_fit.ensures ∙ c.if-not-bars_fit.true))
-
-pub loop-i-preserved : goal.loop-i-preserved
-loop-i-preserved c = (omega arith, sym (and_is _ _ (sym c.bars_fit.ensures ∙ c.if-not-bars_fit.false)) ∙ sym (all_on c.args.ranges.now c.loop-i.i _ c.loop-i-test.true) ∙ c.loop-i.invariant.1)
-
 pub returns : goal.returns
-returns c = sym (sym c.loop-i.invariant.1 ∙ all_end c.args.ranges.now c.loop-i.i (omega arith))
+returns c = all_from_yields_List bars_are_fit _ _ _ c.all.ensures.ran (YieldsList-from_slice c.args.ranges.now cc) (λ x b q k. search (rules, tests)) ∙ all_is c.args.ranges.now

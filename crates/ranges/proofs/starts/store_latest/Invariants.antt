@@ -1,12 +1,8 @@
--- The invariant: the first i latest starts are stored in the ranges.
+-- The invariant: the first i starts are stored in the ranges.
 use mathlib.Core.Path.{◌≡◌}
-use Prim.Native.Nat.{◌-◌, ◌≤◌}
 use lib.ListN.{take}
 use Rattle.ranges.specs.Ranges.{with_latests}
 use Rattle.ranges.proofs.starts.store_latest.Given as goal
 
 abbrev pub invariant-loop-i : goal.invariant-loop-i
-invariant-loop-i l = (l.i ≤ l.count) × (l.ranges ≡ with_latests l.fn.ranges (take l.i l.starts))
-
-abbrev pub decreases-loop-i : goal.decreases-loop-i
-decreases-loop-i l = l.count - l.i
+invariant-loop-i l = l.ranges ≡ with_latests l.fn.ranges (take l.i l.starts)

@@ -1,16 +1,8 @@
 -- The invariant: the first i numbers of the ranges stand in the arrays, over those that were lent.
 use mathlib.Core.Path.{◌≡◌}
-use Prim.Native.Nat.{◌-◌, ◌≤◌}
 use Rattle.ranges.specs.Ranges.{earliests, latests}
 use Rattle.ranges.specs.TakenApart.{over}
 use Rattle.ranges.proofs.starts.take_apart.Given as goal
 
 abbrev pub invariant-loop-i : goal.invariant-loop-i
-invariant-loop-i l = record {
-  within : l.i ≤ l.count;
-  earliest : l.earliest ≡ over l.i (earliests l.ranges) l.fn.earliest;
-  latest : l.latest ≡ over l.i (latests l.ranges) l.fn.latest;
-}
-
-abbrev pub decreases-loop-i : goal.decreases-loop-i
-decreases-loop-i l = l.count - l.i
+invariant-loop-i l = record { earliest : l.earliest ≡ over l.i (earliests l.ranges) l.fn.earliest; latest : l.latest ≡ over l.i (latests l.ranges) l.fn.latest }

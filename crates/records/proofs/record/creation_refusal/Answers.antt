@@ -1,7 +1,6 @@
 -- The tests run on the record's durations, and `lasts_said` and `sum_said` say that they are those of the caller's.
 use native.Mathlib.Omega.{arith}
 use borrow.Author.Rules.{rules}
-use Rattle.records.proofs.Lawful.{few_said}
 use Rattle.records.proofs.Creation.{lasts_said, sum_said}
 use Rattle.records.proofs.TestsInOrder.{in_order}
 use Rattle.records.proofs.record.creation_refusal.Goals as goal
@@ -9,17 +8,8 @@ use Rattle.records.proofs.record.creation_refusal.Goals as goal
 pub returns-then-not-count_fits : goal.returns-then-not-count_fits
 returns-then-not-count_fits c = (search (in_order, rules), λ z. absurd (omega arith))
 
-pub durations_of-requires : goal.durations_of-requires
-durations_of-requires c = search (few_said, rules)
-
-pub all_last-requires : goal.all_last-requires
-all_last-requires c = search (few_said, rules)
-
 pub returns-then-not-all_last : goal.returns-then-not-all_last
 returns-then-not-all_last c = (search (in_order, lasts_said, rules), λ z. absurd (omega arith))
-
-pub sum_fits-requires : goal.sum_fits-requires
-sum_fits-requires c = search (few_said, rules)
 
 pub returns-then-not-sum_fits : goal.returns-then-not-sum_fits
 returns-then-not-sum_fits c = (search (in_order, lasts_said, sum_said, rules), λ z. absurd (omega arith))

@@ -1,39 +1,35 @@
--- `lawful`: the tests in their order; the last is that of the unused places, where those before it are passed.
+-- The tests in their order, by what each leaves for those after it.
+use mathlib.Core.Path.{refl, sym, ◌∙◌}
 use borrow.Author.Rules.{rules}
-use Rattle.integers.proofs.Bools.{and_left, and_right}
 use Rattle.records.specs.Records.{lawful_record}
-use Rattle.records.proofs.Lawful.{few_said, stored_over, stored_fits}
-use Rattle.records.proofs.TestsInOrder.{in_order, one_fails, one_holds}
+use Rattle.records.proofs.Lawful.{count_is}
+use Rattle.records.proofs.Slices.{lawful_last, lawful_not, second_tried, first_failed}
+use Rattle.records.proofs.TestsInOrder.{in_order, one_fails}
+use Rattle.records.proofs.record.lawful.Goals.{then-all_last, else-all_last, then-total_true, else-total_true}
 use Rattle.records.proofs.record.lawful.Goals as goal
 
 pub returns-then-not-count_fits : goal.returns-then-not-count_fits
 unfolding lawful_record
 returns-then-not-count_fits c = search (one_fails, in_order, rules)
 
-pub all_last-requires : goal.all_last-requires
-unfolding lawful_record
-all_last-requires c = search (few_said, rules)
+pub returns-then-record-le-DURATIONS : goal.returns-then-record-le-DURATIONS
+returns-then-record-le-DURATIONS c =
+    let counted = sym c.count_fits.ensures ∙ c.if-not-count_fits.false in
+    lawful_last _ ((count_is c.args.«record».now.count).0 counted).1 (search rules) counted _ _ c.split_at.ensures.front c.split_at.ensures.back (elim c.if-all_last.branch [
+      | then-all_last w ↦ second_tried c.all_last.ensures w.if-all_last.true w.value-is w.total_true.ensures
+      | else-all_last w ↦ first_failed _ c.all_last.ensures w.if-all_last.false w.value-is
+    ]) (elim c.if-total_true.branch [
+      | then-total_true w ↦ second_tried refl w.if-total_true.true w.value-is refl
+      | else-total_true w ↦ first_failed _ refl w.if-total_true.false w.value-is
+    ]) c.if-record-le-DURATIONS.true c.all_zero.ensures
 
-pub returns-then-not-all_last : goal.returns-then-not-all_last
-unfolding lawful_record
-returns-then-not-all_last c = search (one_fails, in_order, rules)
-
-pub total_true-requires : goal.total_true-requires
-unfolding lawful_record
-total_true-requires c = search (few_said, rules)
-
-pub returns-then-not-total_true : goal.returns-then-not-total_true
-unfolding lawful_record
-returns-then-not-total_true c = search (one_fails, in_order, rules) depth 7
-
-pub returns-then-total-gt-DURATIONS : goal.returns-then-total-gt-DURATIONS
-unfolding lawful_record
-returns-then-total-gt-DURATIONS c = search (one_fails, and_left, and_right, stored_over) depth 7
-
-pub unused_zero-requires : goal.unused_zero-requires
-unfolding lawful_record
-unused_zero-requires c = search (few_said, rules)
-
-pub returns : goal.returns
-unfolding lawful_record
-returns c = search (one_holds, in_order, stored_fits, rules) depth 7
+pub returns-else-record-le-DURATIONS : goal.returns-else-record-le-DURATIONS
+returns-else-record-le-DURATIONS c =
+    let counted = sym c.count_fits.ensures ∙ c.if-not-count_fits.false in
+    lawful_not _ ((count_is c.args.«record».now.count).0 counted).1 (search rules) counted _ _ c.split_at.ensures.front c.split_at.ensures.back (elim c.if-all_last.branch [
+      | then-all_last w ↦ second_tried c.all_last.ensures w.if-all_last.true w.value-is w.total_true.ensures
+      | else-all_last w ↦ first_failed _ c.all_last.ensures w.if-all_last.false w.value-is
+    ]) (elim c.if-total_true.branch [
+      | then-total_true w ↦ second_tried refl w.if-total_true.true w.value-is refl
+      | else-total_true w ↦ first_failed _ refl w.if-total_true.false w.value-is
+    ]) c.if-record-le-DURATIONS.false

@@ -25,20 +25,20 @@ nearby : {v : ℤ} → SFits w32 v → Within (VALUE + 1) v → Within (VALUE + 
 nearby f r = wider (VALUE + 1) (VALUE + 2) _ (omega arith) (near f r)
 
 pub tighten_upper_bound-requires-in-Equal : goal.tighten_upper_bound-requires-in-Equal
-tighten_upper_bound-requires-in-Equal c = (rw c.tighten_lower_bound-raised.ensures (tightened_leaves Lower c.args.self _ c.requires.0).tight, nearby c.ranges.value c.requires.1)
+tighten_upper_bound-requires-in-Equal c = (rw c.tighten_lower_bound-in-Equal.ensures (tightened_leaves Lower c.args.self _ c.requires.0).tight, nearby c.ranges.value c.requires.1)
 
 pub returns-then-is_crowded : goal.returns-then-is_crowded
 unfolding reduced
 returns-then-is_crowded c = as_read (reduced c.args.self (kind_of c.args.comparison)) c.ranges.value (rw (c.in-NotEqual.is, sym c.is_crowded.ensures ∙ c.if-is_crowded.true))
 
-pub without_upper-lowered-requires : goal.without_upper-lowered-requires
-without_upper-lowered-requires c = (rw c.without_lower-raised.ensures (side_cut Lower c.args.self _ c.requires.0).tight, near c.ranges.value c.requires.1)
+pub without_upper-requires : goal.without_upper-requires
+without_upper-requires c = (rw c.without_lower.ensures (side_cut Lower c.args.self _ c.requires.0).tight, near c.ranges.value c.requires.1)
 
 pub with_hole-requires : goal.with_hole-requires
 with_hole-requires c =
     let d : Domain = c.args.self in
     let room = sym c.is_crowded.ensures ∙ c.if-is_crowded.false in
-    rw (c.without_upper-lowered.ensures, c.without_lower-raised.ensures) ((side_cut Upper _ _ (side_cut Lower d _ c.requires.0).tight).tight, still_room d _ c.requires.0 room)
+    rw (c.without_upper.ensures, c.without_lower.ensures) ((side_cut Upper _ _ (side_cut Lower d _ c.requires.0).tight).tight, still_room d _ c.requires.0 room)
 
 pub returns-in-GreaterEqual : goal.returns-in-GreaterEqual
 unfolding reduced
@@ -51,14 +51,14 @@ returns-in-LessEqual c = as_read (reduced c.args.self (kind_of c.args.comparison
 pub returns-in-Equal : goal.returns-in-Equal
 unfolding reduced
 returns-in-Equal c =
-    as_read (reduced c.args.self (kind_of c.args.comparison)) c.ranges.value (rw (c.in-Equal.is, c.settled-in-Equal.ensures, c.tighten_upper_bound-in-Equal.ensures, c.tighten_lower_bound-raised.ensures))
+    as_read (reduced c.args.self (kind_of c.args.comparison)) c.ranges.value (rw (c.in-Equal.is, c.settled-in-Equal.ensures, c.tighten_upper_bound-in-Equal.ensures, c.tighten_lower_bound-in-Equal.ensures))
 
 pub returns-else-is_crowded : goal.returns-else-is_crowded
 unfolding reduced without
 returns-else-is_crowded c =
     let room = sym c.is_crowded.ensures ∙ c.if-is_crowded.false in
     as_read (reduced c.args.self (kind_of c.args.comparison)) c.ranges.value
-    (rw (c.in-NotEqual.is, room, c.settled-in-NotEqual.ensures, c.with_hole.ensures, c.without_upper-lowered.ensures, c.without_lower-raised.ensures))
+    (rw (c.in-NotEqual.is, room, c.settled-in-NotEqual.ensures, c.with_hole.ensures, c.without_upper.ensures, c.without_lower.ensures))
 
 pub tighten_lower_bound-requires : goal.tighten_lower_bound-requires
 tighten_lower_bound-requires c = (c.requires.0, nearby c.ranges.value c.requires.1)
@@ -66,5 +66,5 @@ tighten_lower_bound-requires c = (c.requires.0, nearby c.ranges.value c.requires
 pub tighten_upper_bound-requires : goal.tighten_upper_bound-requires
 tighten_upper_bound-requires c = (c.requires.0, nearby c.ranges.value c.requires.1)
 
-pub tighten_lower_bound-raised-requires : goal.tighten_lower_bound-raised-requires
-tighten_lower_bound-raised-requires c = (c.requires.0, nearby c.ranges.value c.requires.1)
+pub tighten_lower_bound-requires-in-Equal : goal.tighten_lower_bound-requires-in-Equal
+tighten_lower_bound-requires-in-Equal c = (c.requires.0, nearby c.ranges.value c.requires.1)

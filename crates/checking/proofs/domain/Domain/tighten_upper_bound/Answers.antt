@@ -1,36 +1,25 @@
--- Where the bound falls, the holes below its rank are those that are kept.
-use Rattle.checking.proofs.ReadWords.{as_read}
-use mathlib.Core.Path.{sym, ◌∙◌}
-use Prim.Native.Nat.{ℕ}
-use native.Mathlib.Omega.{arith}
-use lib.Seq.{take-take}
-use mir.Syntax.{w32}
-use mir.Val.{to_z, of_z}
+-- Where the bound falls, the holes before its place are those that are kept.
+use Rattle.std.proofs.Common.{◌≡◌, ◌∙◌, ap, false, List, ℤ, take, to_z, of_z, w32, rules}
 use Rattle.integers.proofs.Ints.{back_of}
-use Rattle.holes.specs.Holes.{rank}
-use Rattle.holes.proofs.Ascending.{rank_le}
-use Rattle.checking.specs.declared.int_ext.IntExt.TheVariants.{Int}
+use Rattle.holes.specs.Holes.{below, rank, last_at_or_before}
 use Rattle.checking.specs.declared.domain.Domain.{Domain}
-use Rattle.checking.specs.Domains.{holes_of, tightened_upper}
-use Rattle.checking.proofs.Domains.{used, cut_below}
+use Rattle.checking.specs.declared.int_ext.IntExt.TheVariants.{Int}
+use Rattle.checking.specs.Domains.{le_ext, holes_of, tightened_upper}
+use Rattle.checking.proofs.Domains.{cut_below}
+use Rattle.checking.proofs.ReadWords.{as_read}
 use Rattle.checking.proofs.domain.Domain.tighten_upper_bound.Goals as goal
-
-pub returns-then-le : goal.returns-then-le
-unfolding tightened_upper
-returns-then-le c = as_read (tightened_upper c.args.self) c.ranges.bound (rw (sym c.le.ensures ∙ c.if-le.true))
-
-pub part-requires : goal.part-requires
-part-requires c =
-    let most = rank_le (to_z w32 (of_z w32 c.last_up_to-lowered.result)) (holes_of c.args.self) in
-    (omega arith, omega (arith, c.place-to.ensures, used c.args.self c.requires.0, c.requires.0.few, most))
 
 pub returns : goal.returns
 unfolding tightened_upper
 returns c =
-    let f = c.last_up_to-lowered in
     let d : Domain = c.args.self in
-    let p : ℕ = rank f.result (holes_of d) in
-    let within = take-take p d.count d.holes (omega (arith, rank_le f.result (holes_of d), used d c.requires.0)) in
-    as_read (tightened_upper d) c.ranges.bound
-    (rw (sym c.le.ensures ∙ c.if-le.false, c.part.ensures, c.place-to.ensures, back_of w32 f.result f.type_inv, ← f.ensures, ← within)
-    (cut_below d c.requires.0 d.lower_bound (Int f.result) f.result))
+    let v : ℤ = to_z w32 (of_z w32 c.args.bound) in
+    let hs : List ℤ = c.holes-holes.result.now in
+    let f = c.last_up_to-lowered in
+    let e : f.result ≡ last_at_or_before v (holes_of d) = f.ensures ∙ ap (last_at_or_before v) c.holes-holes.ensures in
+    let read = back_of w32 f.result f.type_inv in
+    let place : c.place-to.result ≡ rank f.result (holes_of d) = c.place-to.ensures.value ∙ (λ i. rank (read i) (c.holes-holes.ensures i)) in
+    let (cut, count) = cut_below d c.requires.0 f.result place in
+    let kept : take c.place-to.result hs ≡ below f.result (holes_of d) = rw c.holes-holes.ensures cut in
+    let moves : le_ext d.upper_bound (Int v) ≡ false = search rules in
+    as_read (tightened_upper d) c.ranges.bound (rw (moves, c.padded.ensures, kept, count, read, ← e))

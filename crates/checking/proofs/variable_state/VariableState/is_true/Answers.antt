@@ -1,10 +1,11 @@
 -- The two tests in their order; then the domain of the atom's variable decides, and `truth_promise` says what its answer means.
 use Rattle.checking.specs.Promises.{TruthMeans}
 use Rattle.checking.specs.Answers.{numbers_of_truth}
-use Rattle.checking.specs.declared.variable_state.Truth.{Truth}
+use Rattle.std.specs.Prelude.{Result, Ok}
+use Rattle.integers.specs.declared.refused.Refusal.{Refusal}
 use Rattle.checking.proofs.AcceptedStates.{tested_state}
-use mathlib.Core.Path.{◌≡◌, sym, ◌∙◌}
-use mathlib.Core.Bool.{true}
+use mathlib.Core.Path.{◌≡◌, sym, ap, ◌∙◌}
+use mathlib.Core.Bool.{Bool, true}
 use Prim.Native.Nat.{◌<◌}
 use native.Mathlib.Omega.{arith}
 use lib.IntN.{nat_abs}
@@ -36,7 +37,7 @@ known : (c : After-new-atom) → c.new-atom.result.identifier < VARIABLES
 known c = made_known _ _ _ c.new-atom.result (made c) (atom_right c.before)
 
 -- what an answer means
-promise : (c : After-is_accepted) → let a = c.args in (r : Truth) → r ≡ truth_of a.self a.variable a.kind a.value
+promise : (c : After-is_accepted) → let a = c.args in (r : Result Bool Refusal) → r ≡ truth_of a.self a.variable a.kind a.value
     → record { equals : numbers_of_truth r ≡ numbers_of_truth (truth_of a.self a.variable a.kind a.value); means : TruthMeans a.self a.variable a.kind a.value r }
 promise c = let a = c.args in truth_promise a.self a.variable a.kind a.value (tested_state c.is_accepted.ensures)
 
@@ -59,21 +60,17 @@ said c =
     let m = made c.before.before in
     c.is_true.ensures ∙ (λ i. true_of (domain_at c.args.self (m i).variable) (m i).kind (back c.ranges.value i))
 
-pub returns-then-is_true : goal.returns-then-is_true
-unfolding truth_of
-returns-then-is_true c =
-    promise (goal.at.returns-then-is_true c).After-is_accepted _ (rw (state_right (goal.at.returns-then-is_true c).Else-not-is_accepted, atom_right (goal.at.returns-then-is_true c).Else-not-atom_is_accepted, sym (said (goal.at.returns-then-is_true c).After-is_true) ∙ c.if-is_true.true))
-
 pub returns : goal.returns
 unfolding truth_of
 returns c =
-    promise (goal.at.returns c).After-is_accepted _ (rw (state_right (goal.at.returns c).Else-not-is_accepted, atom_right (goal.at.returns c).Else-not-atom_is_accepted, sym (said (goal.at.returns c).After-is_true) ∙ c.if-is_true.false))
+    promise (goal.at.returns c).After-is_accepted _ (rw (state_right (goal.at.returns c).Else-not-is_accepted, atom_right (goal.at.returns c).Else-not-atom_is_accepted)
+    (ap (λ (t : Bool). Ok t) (said c)))
 
 pub new-atom-requires : goal.new-atom-requires
 new-atom-requires c = sym c.atom_is_accepted.ensures ∙ c.if-not-atom_is_accepted.false
 
-pub offset_bounds-self-x : goal.offset_bounds-self-x
-offset_bounds-self-x c = omega (arith, known c)
+pub offset_bounds-self-atom : goal.offset_bounds-self-atom
+offset_bounds-self-atom c = omega (arith, known c)
 
-pub bounds-self-x : goal.bounds-self-x
-bounds-self-x c = known c
+pub bounds-self-atom : goal.bounds-self-atom
+bounds-self-atom c = known c

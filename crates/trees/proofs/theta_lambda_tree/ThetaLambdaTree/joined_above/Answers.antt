@@ -1,7 +1,6 @@
 -- Whichever child is carried up, the two that are joined are the parent's children.
-use mathlib.Core.Path.{◌≡◌, ap₂, ◌∙◌}
+use mathlib.Core.Path.{◌≡◌}
 use Prim.Native.Nat.{◌+◌, ◌*◌, ◌-◌, ◌/◌}
-use Rattle.trees.specs.Nodes.{join_of}
 use Rattle.trees.specs.Words.{node_at}
 use Rattle.trees.proofs.CarriedBars.{children}
 use Rattle.trees.proofs.theta_lambda_tree.ThetaLambdaTree.joined_above.Goals.{After-with_bars-2}
@@ -13,9 +12,6 @@ joined : (c : After-with_bars-2) → let at = node_at c.args.nodes.now in let up
 joined c =
     children c.requires c.load-sibling.ensures c.get_parent-parent.ensures c.get_left_child_index-left.ensures
     c.get_right_child_index-right.ensures c.load-l.ensures c.load-r.ensures c.with_bars.ensures c.with_bars-2.ensures
-
-pub returns : goal.returns
-returns c = c.join.ensures ∙ ap₂ join_of (joined (goal.at.returns c).After-with_bars-2).0 (joined (goal.at.returns c).After-with_bars-2).1
 
 pub join-requires : goal.join-requires
 join-requires c = (rw (joined c).0 c.requires.left, rw (joined c).1 c.requires.right)

@@ -4,4 +4,4 @@ use Rattle.trees.proofs.Trees.{new_tree}
 use Rattle.trees.proofs.theta_lambda_tree.ThetaLambdaTree.new.Goals as goal
 
 pub returns : goal.returns
-returns c = record { size = c.size_for-size.ensures; empties = λ J est_order z. new_tree J est_order (sized c.size_for-size.ensures z) }
+returns c = record { size = c.size_for-size.ensures.0; empties = λ J est_order z. new_tree J est_order (sized c.size_for-size.ensures.0 z) }

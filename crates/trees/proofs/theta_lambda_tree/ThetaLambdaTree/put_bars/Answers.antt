@@ -2,12 +2,6 @@
 use Rattle.trees.proofs.WhiteParts.{bar_puts}
 use Rattle.trees.proofs.theta_lambda_tree.ThetaLambdaTree.put_bars.Goals as goal
 
-pub overflow_add-position : goal.overflow_add-position
-overflow_add-position c = search bar_puts
-
-pub store_bars-requires : goal.store_bars-requires
-store_bars-requires c = search bar_puts
-
 pub upheap_bars-requires : goal.upheap_bars-requires
 upheap_bars-requires c = search bar_puts
 

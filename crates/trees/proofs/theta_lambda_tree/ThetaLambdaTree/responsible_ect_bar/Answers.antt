@@ -29,8 +29,5 @@ returns c = λ h z. task_is _ _ _ _ (ends (goal.at.returns c).Else-found-eq-NOWH
 pub responsible_index_ect_bar_internal-found-requires : goal.responsible_index_ect_bar_internal-found-requires
 responsible_index_ect_bar_internal-found-requires c = let (h, z) = c.requires in root_searchable h.limited h.tree z
 
-pub get_leaf_node_index-place-requires : goal.get_leaf_node_index-place-requires
-get_leaf_node_index-place-requires c = let (h, z) = c.requires in (ends c h z).0
-
 pub task_of-requires : goal.task_of-requires
 task_of-requires c = let (h, z) = c.requires in omega (arith, (ends (goal.at.task_of-requires c).Else-found-eq-NOWHERE h z).1, c.get_leaf_node_index-place.ensures)

@@ -9,20 +9,8 @@ store_bars-requires c =
       white_stays loop.invariant.0 c.loop-i-test.true loop.invariant.2 c.get_parent-parent.ensures c.joined_above-n.ensures,
     )
 
-pub load-n-requires : goal.load-n-requires
-load-n-requires c = search bar_upheaps
-
-pub loop-i-init : goal.loop-i-init
-loop-i-init c = search bar_upheaps
-
-pub get_parent-parent-requires : goal.get_parent-parent-requires
-get_parent-parent-requires c = search bar_upheaps
-
 pub joined_above-n-requires : goal.joined_above-n-requires
 joined_above-n-requires c = search bar_upheaps
-
-pub loop-i-smaller : goal.loop-i-smaller
-loop-i-smaller c = search bar_upheaps
 
 pub loop-i-preserved : goal.loop-i-preserved
 loop-i-preserved c = search bar_upheaps

@@ -2,7 +2,7 @@
 use mathlib.Core.Path.{◌≡◌}
 use lib.ListN.{length}
 use Rattle.integers.specs.Limits.{TREEWORDS}
-use Rattle.trees.proofs.Joins.{additive}
+use Rattle.trees.specs.NodeLaws.{additive}
 use Rattle.trees.specs.Puts.{WhiteJoins}
 use Rattle.trees.specs.Words.{node_at}
 use Rattle.trees.proofs.ArrayTrees.{DuringUpheap}

@@ -4,4 +4,4 @@ use Rattle.trees.proofs.Trees.{new_plain_tree}
 use Rattle.trees.proofs.theta_tree.ThetaTree.new.Goals as goal
 
 pub returns : goal.returns
-returns c = record { empties = λ J est_order z. new_plain_tree J est_order (sized c.size_for-size.ensures z) }
+returns c = record { empties = λ J est_order z. new_plain_tree J est_order (sized c.size_for-size.ensures.0 z) }

@@ -1,8 +1,0 @@
--- Each case gives its own numbers.
-use Rattle.answers.proofs.added_calls.change_numbers.Goals as goal
-
-pub returns-in-Made : goal.returns-in-Made
-returns-in-Made c = rw c.in-Made.is
-
-pub returns-in-Refused : goal.returns-in-Refused
-returns-in-Refused c = rw c.in-Refused.is

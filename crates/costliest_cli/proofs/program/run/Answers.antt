@@ -1,0 +1,7 @@
+-- What `Costliest` answers to a text is what `written` says of it.
+use Rattle.costliest_cli.specs.Written.{written}
+use Rattle.costliest_cli.proofs.program.run.Goals as goal
+
+pub returns : goal.returns
+unfolding written
+returns g c = c.run.ensures

@@ -1,9 +1,0 @@
--- The two tests of the definition: a task does not come before itself, and else the latest start decides.
-use borrow.Author.Tests.{eq-eqb, ne_eqb}
-use Rattle.precedences.proofs.predecessors.precedes.Goals as goal
-
-pub returns-then-j-i : goal.returns-then-j-i
-returns-then-j-i c = rw (eq-eqb _ _ c.if-j-i.true)
-
-pub returns : goal.returns
-returns c = rw (ne_eqb _ _ c.if-j-i.false)

@@ -1,9 +1,0 @@
--- Only the measure is needed.
-use Rattle.std.proofs.Common.{◌-◌}
-use Rattle.replay_cli.proofs.range_lists.RangeList.with_lists.Given as goal
-
-abbrev pub invariant-loop-k : goal.invariant-loop-k
-invariant-loop-k l = Unit {0}
-
-abbrev pub decreases-loop-k : goal.decreases-loop-k
-decreases-loop-k l = l.n - l.k

@@ -1,9 +1,0 @@
--- Only the measure is needed: each turn goes over one byte.
-use Rattle.std.proofs.Common.{length, ◌-◌}
-use Rattle.replay_lines.proofs.parts.lists_in.Given as goal
-
-abbrev pub invariant-loop-i : goal.invariant-loop-i
-invariant-loop-i l = Unit {0}
-
-abbrev pub decreases-loop-i : goal.decreases-loop-i
-decreases-loop-i l = length l.line - l.i

@@ -1,9 +1,0 @@
--- Each turn passes one word; the loop keeps nothing.
-use Rattle.std.proofs.Common.{◌-◌}
-use Rattle.replay_lines.proofs.words.word_at.Given as goal
-
-abbrev pub invariant-loop-i : goal.invariant-loop-i
-invariant-loop-i l = Unit {0}
-
-abbrev pub decreases-loop-i : goal.decreases-loop-i
-decreases-loop-i l = l.k - l.i

@@ -1,9 +1,0 @@
--- The words hold the tree over the leaves, so the first node is the root and its word codes the ect bar.
-use mathlib.Core.Path.{ap, ◌∙◌}
-use Rattle.trees.specs.declared.theta_lambda_node.Node.{Node}
-use Rattle.trees.specs.Ects.{decoded}
-use Rattle.trees.proofs.Trees.{root_of}
-use Rattle.trees.proofs.theta_lambda_tree.ThetaLambdaTree.ect_bar.Goals as goal
-
-pub returns : goal.returns
-returns c = λ inner h. c.decoded.ensures ∙ ap (λ (n : Node). decoded n.ect_bar) (c.load-root.ensures ∙ root_of h.limited h.tree)
