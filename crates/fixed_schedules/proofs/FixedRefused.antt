@@ -3,7 +3,7 @@ use mathlib.Core.Path.{◌≡◌, refl, sym, ◌∙◌}
 use mathlib.Core.Bool.{Bool, true, false, ◌&&◌}
 use mathlib.Core.Logic.{◌↔◌}
 use mathlib.Core.List.{List, [], ◌∷◌, ◌++◌}
-use Prim.Native.Nat.{ℕ, ◌-◌, ◌<◌}
+use Prim.Native.Nat.{ℕ, ◌-◌, ◌≤◌, ◌<◌}
 use native.Mathlib.Omega.{arith}
 use lib.IntN.{ℤ, pos}
 use lib.ListN.{length, get_or, take}
@@ -27,6 +27,7 @@ use Rattle.fixed_schedules.specs.FixedSchedules.{one_start_at, all_apart, fixed_
 use Rattle.fixed_schedules.specs.Neighbours.{Sortable, Traversable, neighbours_are_apart, Tested}
 use Rattle.fixed_schedules.proofs.Neighbours.{apart_is, neighbours_are}
 use Rattle.fixed_schedules.proofs.AcceptedSchedules.{sortable, lasting, traversable}
+use Rattle.fixed_schedules.proofs.ScheduleOrder.{front_within}
 
 -- the test of 14 as a fact
 module _ (r : DisjunctivePropagator) (es ls : List ℤ) (c : length es ≡ r.count) where
@@ -77,12 +78,12 @@ module _ (r : DisjunctivePropagator) (es ls : List ℤ) where
       more_starts h = by_14 (and_left _ (all_apart r.durations es (length es)) (sym o ∙ h))
 
       module _ (order : List ℕ) (sorted : take (length es) order ≡ order_of es) where
-        pub traverses : Traversable (take (length es) order) es r.durations
-        traverses = traversable r es ls held sorted
+        pub traverses : (length es ≤ length order) × Traversable (take (length es) order) es r.durations
+        traverses = (front_within es order sorted, traversable r es ls held sorted)
 
-        module _ {apart : Bool} (n : apart ≡ all_below (neighbours_are_apart (take (length es) order) es r.durations) (length (take (length es) order) - 1)) where
+        module _ {apart : Bool} (n : apart ≡ all_below (neighbours_are_apart order es r.durations) (length es - 1)) where
           pairs : apart ≡ all_apart r.durations es (length es)
-          pairs = n ∙ neighbours_are r.durations es sorted (lasting r es ls held)
+          pairs = n ∙ neighbours_are r.durations es order sorted (lasting r es ls held)
 
           pub overlapping : apart ≡ false → Tested es (fixed_number r es ls) (Err Schedule)
           overlapping h = by_14 (and_right (all_below (one_start_at es ls) (length es)) _ (sym pairs ∙ h))

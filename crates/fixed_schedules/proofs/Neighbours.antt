@@ -9,16 +9,17 @@ use native.Mathlib.Decide.{dec_lt, ℕ_discrete}
 use lib.Dec.{eqb}
 use lib.IntN.{ℤ, pos}
 use lib.Signed.{le_z, ◌≤ℤ◌}
-use lib.ListN.{length, get_or}
+use lib.ListN.{length, get_or, take}
+use Rattle.std.proofs.lemmas.List.{length-take-le, get_or-take}
 use borrow.Author.Tests.{eqb-true, eq-eqb}
 use Rattle.integers.specs.Orders.{index}
 use Rattle.integers.specs.Tests.{all_below}
 use Rattle.integers.proofs.Bools.{same_tests, or_true, or_right}
 use Rattle.integers.proofs.Ints.{ints, up, dn, sumℤ, le_z_true, le_le_z}
-use Rattle.integers.proofs.Tests.{all_at, all_show}
+use Rattle.integers.proofs.Tests.{all_at, all_show, all_ext}
 use Rattle.fixed_schedules.specs.FixedSchedules.{start_at, end_at, apart_at, all_apart, order_of}
 use Rattle.fixed_schedules.specs.Neighbours.{neighbours_are_apart}
-use Rattle.fixed_schedules.proofs.ScheduleOrder.{ordered, order_length}
+use Rattle.fixed_schedules.proofs.ScheduleOrder.{ordered, order_length, front_within}
 
 or_left : (a b : Bool) → a ≡ true → a || b ≡ true
 or_left a b p = rw p
@@ -85,6 +86,16 @@ module _ (ds : List ℕ) (es : List ℤ) where
   pub same_test : ((k : ℕ) → k < length es → 1 ≤ get_or ds k 0) → all_below (neighbours_are_apart (order_of es) es ds) (length es - 1) ≡ all_apart ds es (length es)
   same_test lasts = let n = length es in same_tests _ _ (λ h. (apart_is n).1 (neighbours_then_all h)) (λ h. all_then_neighbours lasts ((apart_is n).0 h))
 
-  pub neighbours_are : {order : List ℕ} → order ≡ order_of es → ((k : ℕ) → k < length es → 1 ≤ get_or ds k 0)
-      → all_below (neighbours_are_apart order es ds) (length order - 1) ≡ all_apart ds es (length es)
-  neighbours_are e lasts = rw (e, order_length es) (same_test lasts)
+  -- the neighbours among the first places of a list, which alone count
+  pub front_apart : (order : List ℕ) → length es ≤ length order
+      → all_below (neighbours_are_apart (take (length es) order) es ds) (length (take (length es) order) - 1) ≡ all_below (neighbours_are_apart order es ds) (length es - 1)
+  front_apart order long =
+      rw (length-take-le (length es) order long) (all_ext (neighbours_are_apart (take (length es) order) es ds) (neighbours_are_apart order es ds) (length es - 1) agree)
+    where
+      agree : (t : ℕ) → t < length es - 1 → neighbours_are_apart (take (length es) order) es ds t ≡ neighbours_are_apart order es ds t
+      agree t q = rw (get_or-take (length es) order t 0 (omega arith), get_or-take (length es) order (t + 1) 0 (omega arith))
+
+  -- the same of a list that has the order in its first places
+  pub neighbours_are : (order : List ℕ) → take (length es) order ≡ order_of es → ((k : ℕ) → k < length es → 1 ≤ get_or ds k 0)
+      → all_below (neighbours_are_apart order es ds) (length es - 1) ≡ all_apart ds es (length es)
+  neighbours_are order e lasts = sym (front_apart order (front_within es order e)) ∙ rw (e, order_length es) (same_test lasts)

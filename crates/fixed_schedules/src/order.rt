@@ -1,5 +1,5 @@
 // The tasks of a schedule by start, and the test that no two of them overlap.
-ghost use Rattle.std.specs.Prelude.{◌≡◌, ◌-◌, length, take};
+ghost use Rattle.std.specs.Prelude.{◌≡◌, ◌-◌, ◌≤◌, length, take};
 ghost use Rattle.integers.specs.Tests.{all_below};
 ghost use Rattle.fixed_schedules.specs.FixedSchedules.{one_start_at, order_of};
 ghost use Rattle.fixed_schedules.specs.Neighbours.{Sortable, Traversable, neighbours_are_apart};
@@ -29,13 +29,15 @@ pub fn tasks_by_start(earliest: &[i32]) -> [usize; TASKS]
     order
 }
 
-// Whether each task of an order ends by the start of the next.
+// Whether each task of an order ends by the start of the next. The first places, one for each task, hold the order. Those after them do not count, so
+// that a caller may lend the whole array.
 pub fn neighbours_apart(order: &[usize], earliest: &[i32], durations: &[u32; TASKS]) -> bool
-    requires { Traversable order.now earliest.now durations.now }
+    requires { (length earliest.now ≤ length order.now)
+        × Traversable (take (length earliest.now) order.now) earliest.now durations.now }
     ensures { result ≡ all_below (neighbours_are_apart order.now earliest.now durations.now)
-        (length order.now - 1) }
+        (length earliest.now - 1) }
 {
-    for neighbours in order.windows(2) {
+    for neighbours in order[..earliest.len()].windows(2) {
         let task = neighbours[0];
         let next = neighbours[1];
         let end = moment_of(earliest[task]) + durations[task];

@@ -22,7 +22,7 @@ pub fn fixed_order(
         return Err(Refusal::Schedule);
     }
     let order = tasks_by_start(earliest);
-    if !neighbours_apart(&order[..earliest.len()], earliest, &record.durations) {
+    if !neighbours_apart(&order, earliest, &record.durations) {
         return Err(Refusal::Schedule);
     }
     Ok(order)

@@ -1,4 +1,4 @@
-use Rattle.std.proofs.Common.{rules, arith, ◌≡◌, ◌∙◌, sym, ap, ℕ, ◌+◌, ◌-◌, ◌≤◌, ◌<◌, leb, List, length, get_or, drop, add-zero}
+use Rattle.std.proofs.Common.{rules, arith, ◌≡◌, ◌∙◌, sym, ap, ℕ, ◌+◌, ◌-◌, ◌≤◌, ◌<◌, leb, List, length, get_or, take, drop, add-zero}
 use Rattle.std.proofs.lemmas.Iterator.{window_more}
 use Rattle.std.specs.Slice.Iter.{windows_rest}
 use borrow.Author.Tests.{le-leb, lt-leb}
@@ -9,6 +9,7 @@ use Rattle.integers.proofs.MomentSums.{moment_word}
 use Rattle.integers.proofs.Tests.{all_none, all_more, all_broken}
 use Rattle.fixed_schedules.specs.FixedSchedules.{start_at}
 use Rattle.fixed_schedules.specs.Neighbours.{neighbours_are_apart}
+use Rattle.fixed_schedules.proofs.Neighbours.{front_apart}
 use Rattle.fixed_schedules.proofs.ScheduleOrder.{start_moment, ends_by_test}
 use Rattle.fixed_schedules.proofs.order.neighbours_apart.Goals.{After-moment_of, After-moment_of-in-loop-neighbours, In-Some}
 use Rattle.fixed_schedules.proofs.order.neighbours_apart.Goals as goal
@@ -22,13 +23,17 @@ record Turn (order : List ℕ) (i : ℕ) (w next : List ℕ) : Type 0 where
   within : length next ≤ length order
   rest : next ≡ drop (length order - length next) order
 
--- the window's place in the order
-abbrev place_of : In-Some → ℕ
-place_of c = length c.args.order.now - length (windows_rest c.loop-neighbours.neighbours-iterator)
+-- the places that count
+abbrev front_of : In-Some → List ℕ
+front_of c = take (length c.args.earliest.now) c.args.order.now
 
-turn : (c : In-Some) → Turn c.args.order.now (place_of c) c.in-Some.neighbours.now (windows_rest c.next.new.self)
+-- the window's place among them
+abbrev place_of : In-Some → ℕ
+place_of c = length (front_of c) - length (windows_rest c.loop-neighbours.neighbours-iterator)
+
+turn : (c : In-Some) → Turn (front_of c) (place_of c) c.in-Some.neighbours.now (windows_rest c.next.new.self)
 turn c =
-    let order = c.args.order.now in
+    let order = front_of c in
     let v = c.loop-neighbours.invariant in
     let (one_less, rest, left, at) = window_more order c.loop-neighbours.neighbours-iterator c.next.new.self _ _ c.in-Some.is c.next.ensures.steps (omega (arith, v.pairs)) v.within v.rest in record {
       inside = omega (arith, left, v.within, v.pairs);
@@ -45,7 +50,8 @@ small : (c : In-Some) → let n = length c.args.earliest.now in
     (get_or w 0 0 < n) × (get_or w 1 0 < n) × (n ≤ TASKS)
 small c =
     let t = turn c in
-    (rw t.first (c.requires.tasks (place_of c) (omega (arith, t.inside))), rw t.second (c.requires.tasks (place_of c + 1) t.inside), c.requires.sortable.few)
+    let able = c.requires.1 in
+    (rw t.first (able.tasks (place_of c) (omega (arith, t.inside))), rw t.second (able.tasks (place_of c + 1) t.inside), able.sortable.few)
 
 -- the moment of the first one's start
 moment_is : (c : After-moment_of) → c.moment_of.result ≡ moment zero_at (start_at c.args.earliest.now (get_or c.in-Some.neighbours.now 0 0))
@@ -54,7 +60,7 @@ moment_is c = search (moment_word, rules)
 -- what the test of the two says
 seen : (c : After-moment_of-in-loop-neighbours) → let a = c.args in
     leb (c.moment_of.result + get_or a.durations.now (get_or c.in-Some.neighbours.now 0 0) 0) c.moment_of-in-loop-neighbours.result
-    ≡ neighbours_are_apart a.order.now a.earliest.now a.durations.now (place_of (goal.at.After-moment_of-in-loop-neighbours c).In-Some)
+    ≡ neighbours_are_apart (front_of (goal.at.After-moment_of-in-loop-neighbours c).In-Some) a.earliest.now a.durations.now (place_of (goal.at.After-moment_of-in-loop-neighbours c).In-Some)
 seen c =
     let es = c.args.earliest.now in
     let w = c.in-Some.neighbours.now in
@@ -63,19 +69,21 @@ seen c =
     let q = small (goal.at.After-moment_of-in-loop-neighbours c).In-Some in
     let first : c.moment_of.result ≡ moment zero_at (start_at es (get_or w 0 0)) = search (moment_word, rules) in
     let second : c.moment_of-in-loop-neighbours.result ≡ moment zero_at (start_at es (get_or w 1 0)) = search (moment_word, rules) in
-    rw (first, second, ends_by_test (start_at es (get_or w 0 0)) (start_at es (get_or w 1 0)) d (c.requires.sortable.starts _ q.0) (c.requires.sortable.starts _ q.1), t.first, t.second)
+    rw (first, second, ends_by_test (start_at es (get_or w 0 0)) (start_at es (get_or w 1 0)) d (c.requires.1.sortable.starts _ q.0) (c.requires.1.sortable.starts _ q.1), t.first, t.second)
 
 pub loop-neighbours-init : goal.loop-neighbours-init
 loop-neighbours-init c =
-    let rest : windows_rest c.into_iter-neighbours-iterator.result ≡ c.args.order.now = search rules in
-    let none : length c.args.order.now - length (windows_rest c.into_iter-neighbours-iterator.result) ≡ 0 = omega (arith, ap length rest) in
+    let front = take (length c.args.earliest.now) c.args.order.now in
+    let rest : windows_rest c.into_iter-neighbours-iterator.result ≡ front = search rules in
+    let none : length front - length (windows_rest c.into_iter-neighbours-iterator.result) ≡ 0 = omega (arith, ap length rest) in
     record { pairs = search rules; within = omega (arith, ap length rest); rest = rw none rest; passed = omega (arith, none); apart = rw none (all_none _) }
 
 pub overflow_add-end : goal.overflow_add-end
 overflow_add-end c =
     let j = get_or c.in-Some.neighbours.now 0 0 in
     let q = (small (goal.at.overflow_add-end c).In-Some).0 in
-    record { fits = omega (arith, moment_is (goal.at.overflow_add-end c).After-moment_of, start_moment (start_at c.args.earliest.now j) (c.requires.sortable.starts j q), c.requires.durations j q) }
+    let able = c.requires.1 in
+    record { fits = omega (arith, moment_is (goal.at.overflow_add-end c).After-moment_of, start_moment (start_at c.args.earliest.now j) (able.sortable.starts j q), able.durations j q) }
 
 pub offset_bounds-earliest-next : goal.offset_bounds-earliest-next
 offset_bounds-earliest-next c = omega (arith, small (goal.at.offset_bounds-earliest-next c).In-Some)
@@ -85,8 +93,10 @@ bounds-earliest-next c = (small (goal.at.bounds-earliest-next c).In-Some).1
 
 pub returns-then-end-moment_of : goal.returns-then-end-moment_of
 returns-then-end-moment_of c =
+    let a = c.args in
     let t = turn (goal.at.returns-then-end-moment_of c).In-Some in
-    sym (all_broken _ _ _ (omega (arith, t.inside)) (sym (seen (goal.at.returns-then-end-moment_of c).After-moment_of-in-loop-neighbours) ∙ lt-leb _ _ c.if-end-moment_of.true))
+    let broken = sym (seen (goal.at.returns-then-end-moment_of c).After-moment_of-in-loop-neighbours) ∙ lt-leb _ _ c.if-end-moment_of.true in
+    sym (all_broken _ _ _ (omega (arith, t.inside)) broken) ∙ front_apart a.durations.now a.earliest.now a.order.now c.requires.0
 
 pub loop-neighbours-preserved : goal.loop-neighbours-preserved
 loop-neighbours-preserved c =
@@ -100,5 +110,6 @@ returns c =
     let v = c.loop-neighbours.invariant in
     let left = windows_rest c.loop-neighbours.neighbours-iterator in
     let few : length left < 2 = search rules in
-    let e : length a.order.now - 1 ≡ length a.order.now - length left = omega (arith, v.passed, v.within) in
-    sym (ap (all_below (neighbours_are_apart a.order.now a.earliest.now a.durations.now)) e ∙ v.apart)
+    let front = take (length a.earliest.now) a.order.now in
+    let e : length front - 1 ≡ length front - length left = omega (arith, v.passed, v.within) in
+    sym (ap (all_below (neighbours_are_apart front a.earliest.now a.durations.now)) e ∙ v.apart) ∙ front_apart a.durations.now a.earliest.now a.order.now c.requires.0

@@ -1,7 +1,6 @@
 -- The record and its ranges go before; then neighbours in the order of starts decide for all pairs.
 use borrow.Author.Rules.{rules}
 use Rattle.fixed_schedules.proofs.FixedRefused.{ranges_refuse, same_counts, sorts, more_starts, traverses, overlapping, none_wrong}
-use Rattle.fixed_schedules.proofs.ScheduleOrder.{front_length, front_within}
 use Rattle.fixed_schedules.proofs.refusals.fixed_order.Goals as goal
 
 pub returns-in_err-range_refusal : goal.returns-in_err-range_refusal
@@ -16,18 +15,11 @@ returns-then-not-one_start c = search (more_starts, rules)
 pub tasks_by_start-order-requires : goal.tasks_by_start-order-requires
 tasks_by_start-order-requires c = search (sorts, rules)
 
-pub slice_bounds-order-end : goal.slice_bounds-order-end
-slice_bounds-order-end c = search (front_within, rules)
-
-pub slice_bounds-neighbours_apart-end : goal.slice_bounds-neighbours_apart-end
-slice_bounds-neighbours_apart-end c = search (front_length, rules)
-
 pub neighbours_apart-requires : goal.neighbours_apart-requires
 neighbours_apart-requires c = search (traverses, rules)
 
 pub returns-then-not-neighbours_apart : goal.returns-then-not-neighbours_apart
-returns-then-not-neighbours_apart c =
-    overlapping _ _ _ c.in_ok-range_refusal.ensures c.one_start.ensures _ c.tasks_by_start-order.ensures c.neighbours_apart.ensures c.if-not-neighbours_apart.true
+returns-then-not-neighbours_apart c = search (overlapping, rules)
 
 pub returns : goal.returns
 returns c = search (none_wrong, rules)
