@@ -122,28 +122,15 @@ module _ (r : DisjunctivePropagator) (es ls : List ℤ) (out : List ℕ) where
     held : AcceptedPage r es ls (length out)
     held = (accepted_page r es ls (length out)).0 (sym t.number)
 
-    -- the tasks by start
-    count : r.count ≡ length es
-    count = sym held.schedule.counts.earliest
+    pub able : (length es ≤ length order) × Traversable (take (length es) order) es r.durations × (LINE * (length es + 1) ≤ length out)
+    able = (front_within es order t.order, traversable r es ls (input_of held.schedule) t.order, omega (arith, held.room, held.schedule.counts.earliest))
 
-    sorted : take r.count order ≡ order_of es
-    sorted = ap (λ (n : ℕ). take n order) count ∙ t.order
-
-    pub within : r.count ≤ length order
-    within = omega (arith, count, front_within es order t.order)
-
-    pub fits : r.count ≡ length (take r.count order)
-    fits = omega (arith, count, ap length sorted, order_length es)
-
-    pub able : Traversable (take r.count order) es r.durations × (LINE * (length (take r.count order) + 1) ≤ length out)
-    able = (traversable r es ls (input_of held.schedule) sorted, omega (arith, held.room, count, ap length sorted, order_length es))
-
-    pub written : {out' : List ℕ} (n : ℕ) → Puts out out' 0 (heading ++ flat_map (line_at r.durations es) (take r.count order)) n → Paged r es ls out (Ok n) out'
+    pub written : {out' : List ℕ} (n : ℕ) → Puts out out' 0 (heading ++ flat_map (line_at r.durations es) (take (length es) order)) n → Paged r es ls out (Ok n) out'
     written {out'} n q = record {
       refused = λ not. absurd (not (sym t.number));
       written = λ _. record {
-        answer = ap (λ (m : ℕ). numbers_of_page (Ok m)) (omega (arith, page.end, one.long, count));
-        text = page.text ∙ overwrites out (page_of r.durations es) (omega (arith, one.long, count, held.room));
+        answer = ap (λ (m : ℕ). numbers_of_page (Ok m)) (omega (arith, page.end, one.long, held.schedule.counts.earliest));
+        text = page.text ∙ overwrites out (page_of r.durations es) (omega (arith, one.long, held.schedule.counts.earliest, held.room));
       };
       lines = λ _. one;
     }
@@ -152,7 +139,7 @@ module _ (r : DisjunctivePropagator) (es ls : List ℤ) (out : List ℕ) where
         one = one_line_each r.durations es (sortable r es ls (input_of held.schedule)) (short r es ls (input_of held.schedule))
 
         page : Puts out out' 0 (page_of r.durations es) n
-        page = subst (λ (l : List ℕ). Puts out out' 0 (heading ++ flat_map (line_at r.durations es) l) n) sorted q
+        page = subst (λ (l : List ℕ). Puts out out' 0 (heading ++ flat_map (line_at r.durations es) l) n) t.order q
 
 -- too many ranges are refused as none are
 pub too_many : (r : DisjunctivePropagator) (es ls : List ℤ) (out : List ℕ) (page : Result ℕ Refusal) (out' : List ℕ) → TASKS < length es → Paged r [] [] out page out' → Paged r es ls out page out'

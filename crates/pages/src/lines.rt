@@ -1,6 +1,6 @@
 // The lines of a page. Each function puts its bytes at a place of the caller's buffer and answers the place after them: nothing allocates, so there is no
 // String to append to.
-ghost use Rattle.std.specs.Prelude.{◌≡◌, ◌+◌, ◌*◌, ◌≤◌, ◌<◌, pos, ◌+ℤ◌, length};
+ghost use Rattle.std.specs.Prelude.{◌≡◌, ◌+◌, ◌*◌, ◌≤◌, ◌<◌, pos, ◌+ℤ◌, length, take};
 ghost use mathlib.Core.List.{◌++◌, flat_map};
 ghost use Rattle.integers.specs.Limits.{TASKS, DURATIONS};
 ghost use Rattle.records.specs.Refusals.{StartFits};
@@ -54,19 +54,22 @@ fn put_heading(out: &mut [u8]) -> usize
     put_bytes(out, 0, b"NR       START         END    \n")
 }
 
-// The heading, and after it the lines of the tasks in an order.
+// The heading, and after it the lines of the tasks in an order. The first places, one for each task, hold the order. Those after them do not count, so
+// that a caller may lend the whole array.
 pub fn put_lines(
     out: &mut [u8],
     order: &[usize],
     earliest: &[i32],
     durations: &[u32; TASKS],
 ) -> usize
-    requires { Traversable order.now earliest.now durations.now × (LINE * (length order.now + 1) ≤ length out.old) }
+    requires { (length earliest.now ≤ length order.now)
+        × Traversable (take (length earliest.now) order.now) earliest.now durations.now
+        × (LINE * (length earliest.now + 1) ≤ length out.old) }
     ensures { Puts out.old out.new 0
-        (heading ++ flat_map (line_at durations.now earliest.now) order.now) result }
+        (heading ++ flat_map (line_at durations.now earliest.now) (take (length earliest.now) order.now)) result }
 {
     let mut at = put_heading(out);
-    for &task in order {
+    for &task in &order[..earliest.len()] {
         at = put_line(out, at, task, earliest[task], durations[task]);
     }
     at

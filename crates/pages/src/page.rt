@@ -37,5 +37,5 @@ pub fn page(
     ensures { Paged «record» earliest.now latest.now out.old result out.new }
 {
     let order = page_order(&record, earliest, latest, out.len())?;
-    Ok(put_lines(out, &order[..record.count], earliest, &record.durations))
+    Ok(put_lines(out, &order, earliest, &record.durations))
 }
