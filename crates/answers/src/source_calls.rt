@@ -1,7 +1,6 @@
 // The answers of the open calls as structs of numbers, and the functions that make them of the answers.
 ghost use Rattle.std.specs.Prelude.{◌≡◌, [], ◌∷◌, pos};
 ghost use Rattle.integers.specs.Answers.{answered, refused_by};
-ghost use Rattle.integers.specs.Refused.{number_of};
 ghost use Rattle.records.specs.Records.{number_of_creation};
 ghost use Rattle.checking.specs.Answers.{numbers_of_truth, numbers_of_ext, numbers_of_bound};
 ghost use Rattle.checker.specs.Verdicts.{numbers_of_verdict};
@@ -154,12 +153,12 @@ fn contradiction_numbers(variable: usize) -> StateAnswer
 }
 
 // They, or the query, are refused.
-pub fn refusal_numbers(why: Refusal) -> StateAnswer
-    ensures { result ≡ state_answer (refused_by (number_of why)) }
+pub fn refusal_numbers(number: u32) -> StateAnswer
+    ensures { result ≡ state_answer (refused_by number) }
 {
     StateAnswer {
         kind: 3,
-        number: why.number(),
+        number,
         variable: 0,
         infinity: 0,
         value: 0,
@@ -185,7 +184,7 @@ pub fn truth_numbers(truth: Result<bool, Refusal>) -> StateAnswer
             infinity: 0,
             value: 0,
         },
-        Err(why) => refusal_numbers(why),
+        Err(why) => refusal_numbers(why.number()),
     }
 }
 
@@ -224,7 +223,7 @@ pub fn bound_numbers(bound: Result<IntExt, Refusal>) -> StateAnswer
 {
     match bound {
         Ok(x) => ext_numbers(x),
-        Err(why) => refusal_numbers(why),
+        Err(why) => refusal_numbers(why.number()),
     }
 }
 
@@ -235,6 +234,6 @@ pub fn state_numbers(answer: Application, here: StateAnswer) -> StateAnswer
     match answer {
         Application::Consistent => here,
         Application::Contradiction(x) => contradiction_numbers(x),
-        Application::Refused(why) => refusal_numbers(why),
+        Application::Refused(why) => refusal_numbers(why.number()),
     }
 }

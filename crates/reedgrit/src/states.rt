@@ -44,7 +44,7 @@ pub fn truth_after(premises: &[i32], variable: i32, kind: i32, value: i32) -> St
     ensures { result ≡ truth_stepped premises.now variable kind value }
 {
     if !atom_is_accepted(variable, kind, value) {
-        return refusal_numbers(unfit_reason(premises));
+        return refusal_numbers(unfit_reason(premises).number());
     }
     let applied = VariableState::prepare_for_conflict_check(premises, &premises[..0]);
     let here = truth_numbers(applied.state.is_true(variable, kind, value));
@@ -57,7 +57,7 @@ pub fn bound_after(premises: &[i32], side: Side, variable: i32) -> StateAnswer
     ensures { result ≡ bound_stepped (side_of side) premises.now variable }
 {
     if !variable_is_accepted(variable) {
-        return refusal_numbers(unfit_reason(premises));
+        return refusal_numbers(unfit_reason(premises).number());
     }
     let applied = VariableState::prepare_for_conflict_check(premises, &premises[..0]);
     let here = bound_numbers(applied.state.bound(side, variable));

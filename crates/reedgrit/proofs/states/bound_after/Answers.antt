@@ -17,7 +17,7 @@ returns-then-not-variable_is_accepted c =
     c.refusal_numbers.ensures
     ∙ unfit c.args.premises.now (right_variable c.args.variable) (λ t. numbers_of_bound (bound_of (side_of c.args.side) t c.args.variable))
     (sym (c.variable_is_accepted.ensures ∙ ap right_variable (back c.ranges.variable)) ∙ c.if-not-variable_is_accepted.true)
-    _ c.unfit_reason.ensures
+    _ (c.number.ensures ∙ c.unfit_reason.ensures)
 
 pub returns : goal.returns
 returns c =

@@ -14,7 +14,7 @@ returns-then-not-atom_is_accepted c =
     c.refusal_numbers.ensures
     ∙ unfit c.args.premises.now (right_atom c.args.variable c.args.kind c.args.value) (λ t. numbers_of_truth (truth_of t c.args.variable c.args.kind c.args.value))
     (sym (c.atom_is_accepted.ensures ∙ (λ i. right_atom (back c.ranges.variable i) (back c.ranges.kind i) (back c.ranges.value i))) ∙ c.if-not-atom_is_accepted.true)
-    _ c.unfit_reason.ensures
+    _ (c.number.ensures ∙ c.unfit_reason.ensures)
 
 pub returns : goal.returns
 returns c =
