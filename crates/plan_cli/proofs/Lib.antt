@@ -5,3 +5,4 @@ pub mod PrintedRun
 pub mod InputTasks
 pub mod PrintedSlices
 pub mod FirstBytes
+mod Marks
