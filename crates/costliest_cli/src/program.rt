@@ -16,6 +16,7 @@ use text::reading::Numbers;
 pub const ROOM: usize = 4096;
 
 // What the program answers.
+#[derive(Clone, Copy)]
 pub struct Costliest;
 
 impl Answerer for Costliest {

@@ -18,6 +18,7 @@ use text::reading::Numbers;
 pub const ROOM: usize = 160000;
 
 // What the program answers.
+#[derive(Clone, Copy)]
 pub struct Plan;
 
 impl Answerer for Plan {

@@ -16,6 +16,7 @@ use text::reading::Numbers;
 const ROOM: usize = 4096;
 
 // What the program answers.
+#[derive(Clone, Copy)]
 pub struct Why;
 
 impl Answerer for Why {
