@@ -12,10 +12,11 @@ pub fn serve<R: Read, W: Write>(input: &mut R, output: &mut W) -> io::Result<()>
     let mut buffer = [0u8; LINE];
     let mut session = Session::new();
     for _ in 0..u64::MAX {
-        let Some(line) = next_line(input, &mut buffer) else {
-            break;
-        };
+        let (line, more) = next_line(input, &mut buffer);
         session.answer_line(output, line)?;
+        if !more {
+            break;
+        }
     }
     Ok(())
 }

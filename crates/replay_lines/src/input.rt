@@ -10,15 +10,15 @@ fn next_byte<R: Read>(input: &mut R) -> Option<u8> {
     }
 }
 
-// The next line, without its line feed, or none at the input's end. The last may have no line feed. What does not fit `buffer` is the next line.
-pub fn next_line<'a, R: Read>(input: &mut R, buffer: &'a mut [u8]) -> Option<&'a [u8]> {
+// The next line, without its line feed, and whether the input goes on: after its end nothing is read, since a terminal would wait for more. The last line has
+// no line feed, and may be empty. What does not fit `buffer` is the next line.
+pub fn next_line<'a, R: Read>(input: &mut R, buffer: &'a mut [u8]) -> (&'a [u8], bool) {
     for i in 0..buffer.len() {
         match next_byte(input) {
-            Some(b'\n') => return Some(&buffer[..i]),
+            Some(b'\n') => return (&buffer[..i], true),
             Some(byte) => buffer[i] = byte,
-            None if i == 0 => return None,
-            None => return Some(&buffer[..i]),
+            None => return (&buffer[..i], false),
         }
     }
-    Some(buffer)
+    (buffer, true)
 }
