@@ -1,5 +1,6 @@
 // A line, taken apart: its first word, and lists of numbers.
 use text::reading::{Reading, Word, is_space};
+use text::words::{Run, run_end};
 
 // Numbers of a line that are kept. A list of premises this long is refused for its length.
 const NUMBERS: usize = 4096;
@@ -7,21 +8,11 @@ const NUMBERS: usize = 4096;
 // Lists of a line, parted by semicolons.
 const LISTS: usize = 64;
 
-// A line without the white space that it begins with.
-fn trimmed(line: &[u8]) -> &[u8] {
-    match line.iter().position(|byte| !is_space(*byte)) {
-        Some(from) => &line[from..],
-        None => &[],
-    }
-}
-
 // The first word of a line, and what stands after it.
+#[tactic(auto, using(crate::proofs::Runs::run_within))]
 pub fn first_word(line: &[u8]) -> (&[u8], &[u8]) {
-    let line = trimmed(line);
-    match line.iter().position(|byte| is_space(*byte)) {
-        Some(end) => line.split_at(end),
-        None => (line, &[]),
-    }
+    let line = &line[run_end(line, 0, Run::Space)..];
+    line.split_at(run_end(line, 0, Run::Word))
 }
 
 // The number that a word is, or none.
