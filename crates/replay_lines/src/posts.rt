@@ -1,7 +1,10 @@
 // The lines of posts and of their reasons.
 use crate::lines::{say_numbers, say_refused};
 use integers::refused::Refusal;
-use post_words::{atoms_in, post_number, post_reason, stretch};
+use post_words::{
+    atoms_in, kind_at, post_number, post_reason, posts_in, read_post, stretch, value_at,
+    variable_at,
+};
 use std::io;
 use std::io::Write;
 
@@ -29,17 +32,23 @@ fn say_post<W: Write>(
     if post_number(posts, atoms, count, j) != 0 {
         return say_refused(output, Refusal::Post);
     }
-    if let Some(words) = posts.chunks_exact(4).nth(j) {
+    if j < posts_in(posts) {
+        let post = read_post(posts, j);
         write!(output, "post")?;
-        say_numbers(output, words)?;
+        say_numbers(output, &[post.task, post.bound, post.first, post.count])?;
     }
     say_reason(output, post_reason(posts, atoms, count, j))
 }
 
 // The lines of a reason.
 fn say_reason<W: Write>(output: &mut W, words: &[i32]) -> io::Result<()> {
-    for atom in words.chunks_exact(3) {
-        say_why(output, atom[0], atom[1], atom[2])?;
+    for k in 0..atoms_in(words) {
+        say_why(
+            output,
+            words[variable_at(k)],
+            words[kind_at(k)],
+            words[value_at(k)],
+        )?;
     }
     Ok(())
 }

@@ -6,6 +6,7 @@ use checking::domain::Domain;
 use checking::int_ext::IntExt;
 use checking::variable_state::{Application, VariableState};
 use integers::refused::Refusal;
+use post_words::{atoms_in, variable_at};
 use std::io;
 use std::io::Write;
 
@@ -113,7 +114,12 @@ fn say_domain<W: Write>(output: &mut W, x: usize, domain: &Domain) -> io::Result
 
 // Whether an atom of the words is on variable x.
 fn mentions(words: &[i32], x: usize) -> bool {
-    words.chunks_exact(3).any(|atom| place_of(atom[0]) == x)
+    for k in 0..atoms_in(words) {
+        if place_of(words[variable_at(k)]) == x {
+            return true;
+        }
+    }
+    false
 }
 
 // The lines of the variables that the atoms are on.
