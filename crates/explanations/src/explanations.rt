@@ -10,7 +10,7 @@ ghost use Rattle.explanations.specs.Explanations.{ConflictExplainable, Propagati
 
 use crate::theta::Theta;
 use crate::walks::{Suffix, walk, write_within};
-use post_words::{AtomKind, write_atom};
+use post_words::{AtomKind, write_reason_atom};
 use trees::disjunctive_task::LeafPlace;
 
 // Creates an explanation consisting of the tasks of Θ which were responsible for the conflict, based on [1] and [2].
@@ -81,7 +81,7 @@ pub fn create_propagation_explanation(
     let r = est_propagated.min(theta.est[theta.task(omega.first)]);
     let last = r + omega.lasts + p_propagated - 1;
     let at = write_bounds(atoms, k, theta, omega, new_bound, r, last);
-    write_atom(atoms, at, propagated_task, AtomKind::AtLeast, r);
+    write_reason_atom(atoms, at, propagated_task, AtomKind::AtLeast, r);
     at + 1
 }
 

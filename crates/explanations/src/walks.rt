@@ -9,7 +9,7 @@ ghost use Rattle.explanations.specs.WrittenAtoms.{lasting, Writable};
 ghost use Rattle.post_words.specs.StoredAtoms.{Stored};
 
 use crate::theta::Theta;
-use post_words::{AtomKind, write_atom};
+use post_words::{AtomKind, write_reason_atom};
 use trees::disjunctive_task::{LeafPlace, task_of};
 use trees::theta_lambda_tree::ThetaLambdaTree;
 
@@ -74,8 +74,8 @@ pub fn write_within(
     let mut at = k;
     while x.0 < to {
         let t = theta.task(x);
-        write_atom(atoms, at, t, AtomKind::AtLeast, low);
-        write_atom(
+        write_reason_atom(atoms, at, t, AtomKind::AtLeast, low);
+        write_reason_atom(
             atoms,
             at + 1,
             t,

@@ -116,14 +116,22 @@ pub fn write_post(posts: &mut [i32], j: usize, task: usize, bound: u32, first: u
 }
 
 // The k-th atom's three words: its variable is a task, its value the whole number at a moment.
-pub fn write_atom(atoms: &mut [i32], k: usize, task: usize, kind: AtomKind, value: u32)
+pub fn write_atom(atoms: &mut [i32], k: usize, task: usize, kind: i32, value: u32)
     requires { (3 * k + 3 ≤ length atoms.old) × (task < TASKS) }
-    ensures { atoms.new ≡ sets atoms.old (3 * k) (pos task ∷ pos (kind_of kind) ∷ instant zero_at value ∷ []) }
+    ensures { atoms.new ≡ sets atoms.old (3 * k) (pos task ∷ kind ∷ instant zero_at value ∷ []) }
 {
     let at = 3 * k;
     atoms[at] = word_of(task);
-    atoms[at + 1] = kind.word();
+    atoms[at + 1] = kind;
     atoms[at + 2] = start_of(value);
+}
+
+// The same for an atom of a reason, which is of one of two kinds.
+pub fn write_reason_atom(atoms: &mut [i32], k: usize, task: usize, kind: AtomKind, value: u32)
+    requires { (3 * k + 3 ≤ length atoms.old) × (task < TASKS) }
+    ensures { atoms.new ≡ sets atoms.old (3 * k) (pos task ∷ pos (kind_of kind) ∷ instant zero_at value ∷ []) }
+{
+    write_atom(atoms, k, task, kind.word(), value);
 }
 
 // The words of a post: its task, its bound, the number of its first atom, and how many atoms it has.

@@ -14,7 +14,7 @@ use crate::predecessors::{bound_of, predecessors};
 use crate::range_moments::{RangeMoments, range_moments};
 use integers::limits::TASKS;
 use integers::refused::Refusal;
-use post_words::{AtomKind, write_atom};
+use post_words::{AtomKind, write_reason_atom};
 use records::record::DisjunctivePropagator;
 use trees::ect::exceeds;
 
@@ -26,8 +26,8 @@ fn write_both(atoms: &mut [i32], k: usize, j: usize, member: bool, est: u32, lst
     if !member {
         return k;
     }
-    write_atom(atoms, k, j, AtomKind::AtLeast, est);
-    write_atom(atoms, k + 1, j, AtomKind::AtMost, lst);
+    write_reason_atom(atoms, k, j, AtomKind::AtLeast, est);
+    write_reason_atom(atoms, k + 1, j, AtomKind::AtMost, lst);
     k + 2
 }
 
@@ -54,7 +54,7 @@ fn write_reason(atoms: &mut [i32], m: &RangeMoments, i: usize) -> usize
     if !exceeds(bound_of(m, i), start) {
         return 0;
     }
-    write_atom(atoms, 0, i, AtomKind::AtLeast, start);
+    write_reason_atom(atoms, 0, i, AtomKind::AtLeast, start);
     let before = predecessors(m, i);
     write_members(atoms, &before, m)
 }

@@ -67,8 +67,8 @@ write_bounds-at-requires c =
     let s = stops past.After-walk-omega in
     (bound_walk given s, white_writable s given.white (omega (arith, numbers past.After-min-r)) (omega (arith, given.room)), omega (arith, s.small))
 
-pub write_atom-requires : goal.write_atom-requires
-write_atom-requires c = (room (goal.at.write_atom-requires c).After-write_bounds-at, c.requires.known.task)
+pub write_reason_atom-requires : goal.write_reason_atom-requires
+write_reason_atom-requires c = (room (goal.at.write_reason_atom-requires c).After-write_bounds-at, c.requires.known.task)
 
 pub overflow_add-result : goal.overflow_add-result
 overflow_add-result c = omega (arith, room (goal.at.overflow_add-result c).After-write_bounds-at, stored_length c.write_bounds-at.ensures)
@@ -79,4 +79,4 @@ returns c =
     let t = c.args.theta in
     rw (all_leaves (white_of t) (task_at t) t.n)
     (propagation_stored t.est.now (given past.Start).white.total c.args.propagated_task c.args.new_bound c.args.lct_j c.min-r.result (stops past.After-walk-omega) (early past.After-min-r)
-    c.write_bounds-at.ensures c.write_atom.ensures)
+    c.write_bounds-at.ensures c.write_reason_atom.ensures)

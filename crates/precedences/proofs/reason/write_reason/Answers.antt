@@ -9,7 +9,7 @@ use Rattle.precedences.proofs.reason.write_reason.Goals as goal
 
 pub write_members-requires : goal.write_members-requires
 write_members-requires c =
-    let same : length c.write_atom.new.atoms ≡ length c.args.atoms.now = ap length c.write_atom.ensures ∙ simp length-sets in
+    let same : length c.write_reason_atom.new.atoms ≡ length c.args.atoms.now = ap length c.write_reason_atom.ensures ∙ simp length-sets in
     let r = c.requires in
     (r.1.held.few, members_fit r.1 c.args.i r.2 c.predecessors-before.ensures _ (omega (arith, same, r.3)))
 
@@ -18,7 +18,7 @@ returns-then-not-exceeds c J f = nothing_left f c.args.i c.requires.2 (c.bound_o
 
 pub returns : goal.returns
 returns c J f =
-    reason_left f c.args.i c.requires.2 c.predecessors-before.ensures (c.bound_of.ensures J f) c.exceeds.ensures (search rules) c.write_atom.ensures
+    reason_left f c.args.i c.requires.2 c.predecessors-before.ensures (c.bound_of.ensures J f) c.exceeds.ensures (search rules) c.write_reason_atom.ensures
     c.write_members.ensures
 
 pub predecessors-before-requires : goal.predecessors-before-requires
