@@ -1,9 +1,9 @@
 -- The recurrence of the ect over the tasks by earliest start: what is left of it, from the ect of the tasks before, is the whole.
 use mathlib.Core.Path.{◌≡◌, refl, sym, ap, ap₂, subst, ◌∙◌}
-use mathlib.Core.Bool.{Bool, true, false}
+use mathlib.Core.Bool.{Bool, true, false, cond}
 use mathlib.Core.List.{List, []}
-use mathlib.Core.Option.{Option, none, some}
-use Prim.Native.Nat.{ℕ, suc, ◌+◌, ◌≤◌, ◌<◌, max}
+use mathlib.Core.Option.{Option, some}
+use Prim.Native.Nat.{ℕ, zero, suc, ◌+◌, ◌≤◌, ◌<◌, max}
 use native.Mathlib.Numerals.{add-one}
 use native.Mathlib.Omega.{arith}
 use lib.Dec.{leb}
@@ -17,9 +17,10 @@ use Rattle.scheduling.proofs.Ects.{by_earliest_is, order_size, after_none, after
 use Rattle.scheduling.proofs.Sets.{total_part, total_more}
 use Rattle.sorts.specs.Orders.{SortedBy, by_key}
 use Rattle.sorts.proofs.Sorted.{sorted_as}
-use Rattle.trees.specs.Ects.{raised_to}
+use Rattle.trees.specs.Ects.{decoded}
 use Rattle.trees.specs.NodeBounds.{LATEST}
 use Rattle.trees.specs.Trees.{Limited}
+use Rattle.trees.proofs.Ects.{decoded_none, decoded_some}
 use Rattle.trees.proofs.RootAnswers as tree
 use Rattle.chosen_sets.specs.TaskArrays.{HeldSet, completed}
 
@@ -36,19 +37,12 @@ module _ {J : Tasks natural} {Ω : TaskSet} {n : ℕ} {chosen : List Bool} {est 
       ∙ ap (λ (m : ℕ). sort (λ j k. leb (J.earliest j) (J.earliest k)) (numbers 0 m)) (sym h.count)
 
 -- The tasks at the places before x are done, and their ect is `ect`.
-pub record Done (J : Tasks natural) (Ω : TaskSet) (x : ℕ) (ect : Option ℕ) : Type 0 where
-  pub rest : ect_after J Ω ect (drop x (by_earliest J)) ≡ ect_of J Ω
-  pub most : raised_to 0 ect ≤ LATEST + total (λ j. J.duration (get_or (by_earliest J) j 0)) x
+pub record Done (J : Tasks natural) (Ω : TaskSet) (x ect : ℕ) : Type 0 where
+  pub rest : ect_after J Ω (decoded ect) (drop x (by_earliest J)) ≡ ect_of J Ω
+  pub most : ect ≤ LATEST + total (λ j. J.duration (get_or (by_earliest J) j 0)) x
 
--- a start raised to an ect is the larger of the two
-raised_max : (start : ℕ) (o : Option ℕ) → raised_to start o ≡ max start (raised_to 0 o)
-raised_max start none = omega arith
-raised_max start (some v) = omega arith
-
--- it is where a task that starts there completes, but for its duration
-completes_is : (J : Tasks natural) (o : Option ℕ) (k : ℕ) → completes J o k ≡ raised_to (J.earliest k) o + J.duration k
-completes_is J none k = refl
-completes_is J (some v) k = refl
+pub none_done : (J : Tasks natural) (Ω : TaskSet) → Done J Ω 0 0
+none_done J Ω = record { rest = ap (λ (o : Option ℕ). ect_after J Ω o (by_earliest J)) (decoded_none 0 refl); most = omega arith }
 
 module _ {J : Tasks natural} {Ω : TaskSet} {n : ℕ} {chosen : List Bool} {est durations order : List ℕ} (h : HeldSet J Ω n chosen est durations) (s : SortedBy (by_key est) n order) where
   front_size : length (take n order) ≡ J.count
@@ -82,10 +76,10 @@ module _ {J : Tasks natural} {Ω : TaskSet} {n : ℕ} {chosen : List Bool} {est 
     chosen_is : get_or chosen i false ≡ Ω k
     chosen_is = h.member i small ∙ ap Ω task_is
 
-    next_most : (ect : Option ℕ) → Done J Ω x ect → raised_to (J.earliest k) ect + J.duration k ≤ LATEST + total (λ j. J.duration (get_or (by_earliest J) j 0)) (x + 1)
-    next_most ect d = omega (arith, d.most, raised_max (J.earliest k) ect, (limited h).starts x inside, total_more (λ j. J.duration (get_or (by_earliest J) j 0)) x)
+    next_most : (ect : ℕ) → Done J Ω x ect → max ect (J.earliest k) + J.duration k ≤ LATEST + total (λ j. J.duration (get_or (by_earliest J) j 0)) (x + 1)
+    next_most ect d = omega (arith, d.most, (limited h).starts x inside, total_more (λ j. J.duration (get_or (by_earliest J) j 0)) x)
 
-    pub next_fits : (ect : Option ℕ) → Done J Ω x ect → raised_to (get_or est i 0) ect + get_or durations i 0 ≤ U32MAX
+    pub next_fits : (ect : ℕ) → Done J Ω x ect → max ect (get_or est i 0) + get_or durations i 0 ≤ U32MAX
     next_fits ect d = rw (start_is, lasts_is) (omega (
       arith,
       next_most ect d,
@@ -94,19 +88,28 @@ module _ {J : Tasks natural} {Ω : TaskSet} {n : ℕ} {chosen : List Bool} {est 
       (limited h).durations,
     ))
 
-    pub one_done : (ect r : Option ℕ) → Done J Ω x ect → r ≡ completed ect (get_or chosen i false) (get_or est i 0) (get_or durations i 0) → Done J Ω (x + 1) r
+    -- one task more: none that lasts completes at 0
+    joined : (b : Bool) (ect : ℕ) → decoded (completed ect b (J.earliest k) (J.duration k)) ≡ cond b (some (completes J (decoded ect) k)) (decoded ect)
+    joined false ect = refl
+    joined true ect = decoded_some _ (omega (arith, (limited h).lasts x inside)) ∙ ap some (by ect)
+      where
+        by : (ect : ℕ) → max ect (J.earliest k) + J.duration k ≡ completes J (decoded ect) k
+        by zero = rw (decoded_none 0 refl) (omega arith)
+        by (suc e) = rw (decoded_some (suc e) (omega arith)) (omega arith)
+
+    pub one_done : (ect r : ℕ) → Done J Ω x ect → r ≡ completed ect (get_or chosen i false) (get_or est i 0) (get_or durations i 0) → Done J Ω (x + 1) r
     one_done ect r d e = subst (Done J Ω (x + 1)) (sym (e ∙ rw (chosen_is, start_is, lasts_is) refl)) (record { rest = rest; most = most (Ω k) })
       where
-        rest : ect_after J Ω (completed ect (Ω k) (J.earliest k) (J.duration k)) (drop (x + 1) (by_earliest J)) ≡ ect_of J Ω
-        rest = rw (← completes_is J ect k, add-one x) (sym (after_more J Ω ect k (drop (suc x) (by_earliest J)))
-            ∙ ap (ect_after J Ω ect) (sym (drop-cons (by_earliest J) x 0 (omega (arith, inside, order_size J)))) ∙ d.rest)
+        rest : ect_after J Ω (decoded (completed ect (Ω k) (J.earliest k) (J.duration k))) (drop (x + 1) (by_earliest J)) ≡ ect_of J Ω
+        rest = rw (joined (Ω k) ect, add-one x) (sym (after_more J Ω (decoded ect) k (drop (suc x) (by_earliest J)))
+            ∙ ap (ect_after J Ω (decoded ect)) (sym (drop-cons (by_earliest J) x 0 (omega (arith, inside, order_size J)))) ∙ d.rest)
 
-        most : (b : Bool) → raised_to 0 (completed ect b (J.earliest k) (J.duration k)) ≤ LATEST + total (λ j. J.duration (get_or (by_earliest J) j 0)) (x + 1)
-        most true = omega (arith, next_most ect d)
+        most : (b : Bool) → completed ect b (J.earliest k) (J.duration k) ≤ LATEST + total (λ j. J.duration (get_or (by_earliest J) j 0)) (x + 1)
+        most true = next_most ect d
         most false = omega (arith, d.most, total_more (λ j. J.duration (get_or (by_earliest J) j 0)) x)
 
-  pub all_done : (x : ℕ) (ect : Option ℕ) → x ≡ length (take n order) → Done J Ω x ect → ect ≡ ect_of J Ω
-  all_done x ect e d = sym (after_none J Ω ect) ∙ ap (ect_after J Ω ect) (sym end) ∙ d.rest
+  pub all_done : (x ect : ℕ) → x ≡ length (take n order) → Done J Ω x ect → decoded ect ≡ ect_of J Ω
+  all_done x ect e d = sym (after_none J Ω (decoded ect)) ∙ ap (ect_after J Ω (decoded ect)) (sym end) ∙ d.rest
     where
       end : drop x (by_earliest J) ≡ []
       end = ap (λ (m : ℕ). drop m (by_earliest J)) (let z : x ≡ length (by_earliest J) = omega (arith, order_size J, front_size) in z) ∙ drop-length (by_earliest J)

@@ -1,9 +1,7 @@
 -- Tasks and a set of them in arrays.
-use Rattle.std.specs.Prelude.{◌≡◌, Bool, false, cond, List, ℕ, ◌+◌, ◌≤◌, ◌<◌, get_or}
-use Rattle.std.proofs.Math.Option.{Option, some}
+use Rattle.std.specs.Prelude.{◌≡◌, Bool, false, cond, List, ℕ, ◌+◌, ◌≤◌, ◌<◌, max, get_or}
 use Rattle.integers.specs.Limits.{TASKS, DURATIONS}
 use Rattle.scheduling.specs.Scheduling.{natural, Tasks, Proper, TaskSet, total}
-use Rattle.trees.specs.Ects.{raised_to}
 use Rattle.trees.specs.NodeBounds.{LATEST}
 
 -- n tasks, their earliest starts and durations, and which of them are chosen
@@ -22,6 +20,6 @@ pub record Late (J : Tasks natural) (n : ℕ) (lst : List ℕ) : Type 0 where
   pub at : (k : ℕ) → k < n → get_or lst k 0 ≡ J.latest k
   pub fits : (k : ℕ) → k < n → J.latest k ≤ LATEST
 
--- an ect with one task more, where it is chosen
-abbrev pub completed : Option ℕ → Bool → ℕ → ℕ → Option ℕ
-completed ect chosen est p = cond chosen (some (raised_to est ect + p)) ect
+-- an ect with one task more, where it is chosen; 0 is the ect of no task
+abbrev pub completed : ℕ → Bool → ℕ → ℕ → ℕ
+completed ect chosen est p = cond chosen (max ect est + p) ect
