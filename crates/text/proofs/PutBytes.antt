@@ -1,10 +1,11 @@
 -- Bytes put into a buffer one after the other.
 use mathlib.Core.Path.{◌≡◌, refl, sym, ap, ◌∙◌}
 use mathlib.Core.List.{List, [], ◌∷◌, ◌++◌}
-use Prim.Native.Nat.{ℕ, ◌+◌}
+use Prim.Native.Nat.{ℕ, ◌+◌, ◌<◌}
+use native.Mathlib.Numerals.{add-one}
 use native.Mathlib.Omega.{arith}
-use lib.ListN.{length, set, length-append}
-use lib.Seq.{sets, length-sets}
+use lib.ListN.{length, take, set, get_or, length-append}
+use lib.Seq.{sets, length-sets, take-suc, length-take-le}
 use Rattle.integers.proofs.Words.{sets_append}
 use Rattle.text.specs.DecimalText.{Puts}
 
@@ -22,3 +23,9 @@ puts_append {first} {second} {third} {us} {vs} {at} {middle} {next} p q = record
   text = q.text ∙ ap (λ (l : List ℕ). sets l middle vs) p.text ∙ ap (λ (k : ℕ). sets (sets first at us) k vs) p.end ∙ sym (sets_append us vs first at);
   end = omega (arith, p.end, q.end, length-append us vs);
 }
+
+-- the bytes of a slice, one more of them
+pub puts_more : (before bs : List ℕ) (at i : ℕ) → i < length bs → set (sets before at (take i bs)) (at + i) (get_or bs i 0) ≡ sets before at (take (i + 1) bs)
+puts_more before bs at i h =
+    let n = length-take-le i bs (omega arith) in
+    rw (add-one i, take-suc bs i 0 h, sets_append (take i bs) (get_or bs i 0 ∷ []) before at, n)

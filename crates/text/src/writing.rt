@@ -3,14 +3,15 @@
 ghost use Rattle.std.specs.Prelude.{◌+◌, ◌≤◌, length};
 ghost use Rattle.text.specs.DecimalText.{natural, decimal, Puts};
 
-// The bytes of a slice.
+// The bytes of a slice. They are copied one by one: a copy of the slice calls `memmove`, and the archive for C is to ask for no more functions than it did.
 pub fn put_bytes(out: &mut [u8], at: usize, bytes: &[u8]) -> usize
     requires { at + length bytes.now ≤ length out.old }
     ensures { Puts out.old out.new at bytes.now result }
 {
-    let next = at + bytes.len();
-    out[at..next].copy_from_slice(bytes);
-    next
+    for i in 0..bytes.len() {
+        out[at + i] = bytes[i];
+    }
+    at + bytes.len()
 }
 
 // The digits of n: those of a tenth of n go first, and then the last one.
