@@ -25,6 +25,6 @@ fn say_verdict<W: Write>(output: &mut W, verdict: Verdict) -> io::Result<()> {
         Verdict::Passed => writeln!(output, "passed"),
         Verdict::NotPassed => writeln!(output, "not-passed"),
         Verdict::Contradiction(x) => say_contradiction(output, x),
-        Verdict::Refused(why) => say_refused(output, why),
+        Verdict::Refused(why) => say_refused(output, why.number()),
     }
 }

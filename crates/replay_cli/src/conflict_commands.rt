@@ -30,7 +30,7 @@ pub fn answer_conflict<W: Write>(
             say_set(output, "after", &shown)?;
             say_before(output, &shown.before)
         }
-        Found::Refused(why) => say_refused(output, why),
+        Found::Refused(why) => say_refused(output, why.number()),
     }
 }
 
@@ -73,6 +73,6 @@ pub fn answer_conflict_page<W: Write>(
     match answer {
         Ok(Some(bytes)) => say_part(output, &sheet, bytes),
         Ok(None) => writeln!(output, "nothing"),
-        Err(why) => say_refused(output, why),
+        Err(why) => say_refused(output, why.number()),
     }
 }

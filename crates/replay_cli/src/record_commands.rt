@@ -15,7 +15,7 @@ pub fn answer_create<W: Write>(
     let answer = made.answer;
     match answer {
         Ok(()) => writeln!(output, "created {}", durations.len()),
-        Err(why) => say_refused(output, why),
+        Err(why) => say_refused(output, why.number()),
     }?;
     Ok(made.record)
 }
@@ -55,7 +55,7 @@ fn say_change<W: Write>(
     let answer = changed.answer;
     match answer {
         Ok(()) => writeln!(output, "{word}"),
-        Err(why) => say_refused(output, why),
+        Err(why) => say_refused(output, why.number()),
     }?;
     Ok(Some(changed.record))
 }

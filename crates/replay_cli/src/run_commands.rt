@@ -92,7 +92,7 @@ fn say_outcome<W: Write>(
             say_posts(output, posts, atoms, count)?;
             writeln!(output, "emptied")
         }
-        Outcome::Refused(why) => say_refused(output, why),
+        Outcome::Refused(why) => say_refused(output, why.number()),
     }
 }
 
@@ -105,7 +105,7 @@ fn answer_overload_test<W: Write>(
     match by_value::overload_test(record, ranges) {
         Ok(Some(read)) => writeln!(output, "yes {read}"),
         Ok(None) => writeln!(output, "no"),
-        Err(why) => say_refused(output, why),
+        Err(why) => say_refused(output, why.number()),
     }
 }
 
@@ -120,7 +120,7 @@ fn answer_precedences<W: Write>(
     match answer {
         Precedences::Done => say_starts(output, &now.ranges, ranges.count, |range| range.earliest),
         Precedences::Emptied(task) => writeln!(output, "passes {task}"),
-        Precedences::Refused(why) => say_refused(output, why),
+        Precedences::Refused(why) => say_refused(output, why.number()),
     }
 }
 
@@ -148,7 +148,7 @@ fn answer_value<W: Write>(
     match by_value::precedence_bound(record, ranges, task) {
         Ok(Some(bound)) => writeln!(output, "bound {bound}"),
         Ok(None) => writeln!(output, "none"),
-        Err(why) => say_refused(output, why),
+        Err(why) => say_refused(output, why.number()),
     }
 }
 
@@ -166,6 +166,6 @@ fn answer_reason<W: Write>(
             writeln!(output, "count {count}")?;
             say_atoms(output, &atoms, 0, count)
         }
-        Err(why) => say_refused(output, why),
+        Err(why) => say_refused(output, why.number()),
     }
 }

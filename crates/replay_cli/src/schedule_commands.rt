@@ -38,7 +38,7 @@ fn answer_page<W: Write>(
     let answer = by_value::page(record, ranges, &mut sheet);
     match answer {
         Ok(bytes) => say_part(output, &sheet, bytes),
-        Err(why) => say_refused(output, why),
+        Err(why) => say_refused(output, why.number()),
     }
 }
 
@@ -52,7 +52,7 @@ fn answer_charges<W: Write>(
     let made = by_value::charges(record, ranges, due);
     let answer = made.answer;
     if let Err(why) = answer {
-        return say_refused(output, why);
+        return say_refused(output, why.number());
     }
     let charged = made.charged;
     write!(output, "charges")?;
@@ -73,7 +73,7 @@ fn answer_free_start<W: Write>(
 ) -> io::Result<()> {
     match by_value::free_start(record, ranges, from, duration) {
         Ok(start) => writeln!(output, "start {start}"),
-        Err(why) => say_refused(output, why),
+        Err(why) => say_refused(output, why.number()),
     }
 }
 
@@ -86,6 +86,6 @@ fn answer_stretch<W: Write>(
 ) -> io::Result<()> {
     match by_value::busiest_stretch(record, ranges, length) {
         Ok(stretch) => writeln!(output, "covered {} from {}", stretch.covered, stretch.start),
-        Err(why) => say_refused(output, why),
+        Err(why) => say_refused(output, why.number()),
     }
 }

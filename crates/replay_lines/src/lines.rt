@@ -1,5 +1,4 @@
 // Lines that several commands answer with. Each is written to the output as it comes, and a write that fails ends the answer.
-use integers::refused::Refusal;
 use std::io;
 use std::io::Write;
 
@@ -8,9 +7,9 @@ pub fn say_error<W: Write>(output: &mut W) -> io::Result<()> {
     writeln!(output, "error")
 }
 
-// The number of the reason why a call was refused.
-pub fn say_refused<W: Write>(output: &mut W, why: Refusal) -> io::Result<()> {
-    writeln!(output, "refused {}", why.number())
+// The number that refused a call.
+pub fn say_refused<W: Write>(output: &mut W, number: u32) -> io::Result<()> {
+    writeln!(output, "refused {number}")
 }
 
 // The variable of a contradiction.

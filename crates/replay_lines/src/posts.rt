@@ -1,6 +1,5 @@
 // The lines of posts and of their reasons.
 use crate::lines::{say_numbers, say_refused};
-use integers::refused::Refusal;
 use post_words::{
     atoms_in, kind_at, post_number, post_reason, posts_in, read_post, stretch, value_at,
     variable_at,
@@ -29,8 +28,9 @@ fn say_post<W: Write>(
     count: usize,
     j: usize,
 ) -> io::Result<()> {
-    if post_number(posts, atoms, count, j) != 0 {
-        return say_refused(output, Refusal::Post);
+    let number = post_number(posts, atoms, count, j);
+    if number != 0 {
+        return say_refused(output, number);
     }
     if j < posts_in(posts) {
         let post = read_post(posts, j);

@@ -40,7 +40,7 @@ pub fn answer_apply<W: Write>(
     match answer {
         Application::Consistent => say_variable(output, &after, variable),
         Application::Contradiction(x) => say_contradiction(output, x),
-        Application::Refused(why) => say_refused(output, why),
+        Application::Refused(why) => say_refused(output, why.number()),
     }?;
     Ok(after)
 }
@@ -70,7 +70,7 @@ fn answer_truth<W: Write>(output: &mut W, state: VariableState, words: &[i32]) -
     };
     match state.is_true(variable, kind, value) {
         Ok(truth) => writeln!(output, "{truth}"),
-        Err(why) => say_refused(output, why),
+        Err(why) => say_refused(output, why.number()),
     }
 }
 
@@ -81,7 +81,7 @@ fn say_bound<W: Write>(output: &mut W, bound: Result<IntExt, Refusal>) -> io::Re
             say_ext(output, x)?;
             writeln!(output)
         }
-        Err(why) => say_refused(output, why),
+        Err(why) => say_refused(output, why.number()),
     }
 }
 
@@ -99,7 +99,7 @@ fn say_variable<W: Write>(output: &mut W, state: &VariableState, variable: i32) 
     let x = place_of(variable);
     match state.domains.get(x) {
         Some(domain) => say_domain(output, x, domain),
-        None => say_refused(output, Refusal::Atoms),
+        None => say_refused(output, Refusal::Atoms.number()),
     }
 }
 
@@ -154,7 +154,7 @@ pub fn answer_prepare<W: Write>(
             return Ok(after);
         }
         Application::Contradiction(x) => say_contradiction(output, x),
-        Application::Refused(why) => say_refused(output, why),
+        Application::Refused(why) => say_refused(output, why.number()),
     }?;
     Ok(state)
 }
