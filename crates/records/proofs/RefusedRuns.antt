@@ -8,6 +8,7 @@ use native.Mathlib.Omega.{arith}
 use native.Mathlib.Nat.{mul-le-mul_left}
 use lib.Dec.{leb, eqb}
 use lib.IntN.{ℤ, pos}
+use lib.Signed.{le_z, ◌≤ℤ◌}
 use lib.ListN.{length, get_or}
 use borrow.Author.Tests.{not-true, not-false}
 use Rattle.integers.specs.Limits.{TASKS}
@@ -22,6 +23,10 @@ use Rattle.records.specs.Refusals.{AcceptedRun}
 use Rattle.records.proofs.LastTests.{tests_first, last_refuses, last_passes}
 use Rattle.records.proofs.Lawful.{lawful_is}
 use Rattle.records.proofs.TestsInOrder.{as_facts, as_tests}
+
+-- a number from low to high, tested and as a fact
+pub within_is : (low high z : ℤ) → le_z low z && le_z z high ≡ true ↔ ((low ≤ℤ z) × (z ≤ℤ high))
+within_is low high z = (λ h. search as_facts, λ f. search as_tests)
 
 starts_in : (xs : List ℤ) → all_below (start_fits_at xs) (length xs) ≡ true ↔ ((k : ℕ) → k < length xs → StartFits (get_or xs k (pos 0)))
 starts_in xs = (facts, λ f. all_show (start_fits_at xs) (length xs) (λ k q. (let g = f k q in search as_tests)))

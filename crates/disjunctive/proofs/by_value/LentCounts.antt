@@ -14,11 +14,11 @@ use Rattle.ranges.specs.declared.range.Range.{Range}
 use Rattle.disjunctive.specs.declared.by_value.Ranges.{Ranges}
 use Rattle.disjunctive.specs.GivenRanges.{RANGES, lent_of, given, StoredIn}
 
-lent_few : (n : ℕ) → n ≤ RANGES → lent_of n ≡ n
+pub lent_few : (n : ℕ) → n ≤ RANGES → lent_of n ≡ n
 unfolding lent_of
 lent_few n h = simp (le-leb n RANGES h)
 
-lent_all : (n : ℕ) → RANGES < n → lent_of n ≡ RANGES
+pub lent_all : (n : ℕ) → RANGES < n → lent_of n ≡ RANGES
 unfolding lent_of
 lent_all n h = simp (lt-leb n RANGES h)
 
@@ -38,13 +38,13 @@ module _ (n : ℕ) (ys : List Range) (size : length ys ≡ RANGES) where
 
 module _ (x : Ranges) (size : length x.ranges ≡ RANGES) (n : ℕ) (lent : n ≡ lent_of x.count) where
   -- the ranges that are lent are there, and are those that the call is given
-  lent_there : n ≤ length x.ranges
+  pub lent_there : n ≤ length x.ranges
   lent_there = omega (arith, lent_fits x.count)
 
-  lent_length : n ≡ length (take n x.ranges)
+  pub lent_length : n ≡ length (take n x.ranges)
   lent_length = sym (length-take-le n x.ranges lent_there)
 
-  lent_given : take n x.ranges ≡ given x
+  pub lent_given : take n x.ranges ≡ given x
   lent_given = ap (λ (k : ℕ). take k x.ranges) lent ∙ lent_take x.count x.ranges size
 
   -- a call that stores starts leaves ys in the ranges that are lent
