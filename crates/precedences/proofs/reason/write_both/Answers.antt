@@ -24,7 +24,9 @@ length_first : (c : After-write_reason_atom) → length c.write_reason_atom.new.
 length_first c = ap length (first c) ∙ simp length-sets
 
 pub write_reason_atom-requires-2 : goal.write_reason_atom-requires-2
-write_reason_atom-requires-2 c = (omega (arith, room (goal.at.write_reason_atom-requires-2 c).Else-not-member, length_first (goal.at.write_reason_atom-requires-2 c).After-write_reason_atom), c.requires.1)
+write_reason_atom-requires-2 c =
+    let past = goal.at.write_reason_atom-requires-2 c in
+    (omega (arith, room past.Else-not-member, length_first past.After-write_reason_atom), c.requires.1)
 
 pub overflow_add-result : goal.overflow_add-result
 overflow_add-result c = omega (arith, room (goal.at.overflow_add-result c).Else-not-member)
