@@ -3,7 +3,7 @@
 ghost use Rattle.std.specs.Prelude.{◌+◌, ◌≤◌, length};
 ghost use Rattle.text.specs.DecimalText.{natural, decimal, Puts};
 
-// The bytes of a slice. They are copied one by one: a copy of the slice calls `memmove`, and the archive for C is to ask for no more functions than it did.
+// The bytes of a slice. They are copied one by one: a copy of the slice calls `memmove`, and the archive for C asks for `memcpy` and `memset` alone.
 pub fn put_bytes(out: &mut [u8], at: usize, bytes: &[u8]) -> usize
     requires { at + length bytes.now ≤ length out.old }
     ensures { Puts out.old out.new at bytes.now result }
