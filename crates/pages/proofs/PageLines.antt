@@ -122,6 +122,16 @@ module _ (r : DisjunctivePropagator) (es ls : List ℤ) (out : List ℕ) where
     held : AcceptedPage r es ls (length out)
     held = (accepted_page r es ls (length out)).0 (sym t.number)
 
+    count : r.count ≡ length es
+    count = sym held.schedule.counts.earliest
+
+    -- the order's first places, one for each task of the record, can be lent, and are as many as the tasks
+    pub within : r.count ≤ length order
+    within = omega (arith, count, front_within es order t.order)
+
+    pub fits : r.count ≡ length (take r.count order)
+    fits = omega (arith, count, ap length (ap (λ (n : ℕ). take n order) count ∙ t.order), order_length es)
+
     pub able : (length es ≤ length order) × Traversable (take (length es) order) es r.durations × (LINE * (length es + 1) ≤ length out)
     able = (front_within es order t.order, traversable r es ls (input_of held.schedule) t.order, omega (arith, held.room, held.schedule.counts.earliest))
 

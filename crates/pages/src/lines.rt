@@ -54,9 +54,26 @@ fn put_heading(out: &mut [u8]) -> usize
     put_bytes(out, 0, b"NR       START         END    \n")
 }
 
-// The heading, and after it the lines of the tasks in an order. The first places, one for each task, hold the order. Those after them do not count, so
-// that a caller may lend the whole array.
+// The heading, and after it the lines of the tasks in an order, one for each place of it.
 pub fn put_lines(
+    out: &mut [u8],
+    order: &[usize],
+    earliest: &[i32],
+    durations: &[u32; TASKS],
+) -> usize
+    requires { Traversable order.now earliest.now durations.now × (LINE * (length order.now + 1) ≤ length out.old) }
+    ensures { Puts out.old out.new 0
+        (heading ++ flat_map (line_at durations.now earliest.now) order.now) result }
+{
+    let mut at = put_heading(out);
+    for &task in order {
+        at = put_line(out, at, task, earliest[task], durations[task]);
+    }
+    at
+}
+
+// The same of an order that stands in the first places, one for each task. The places after them do not count, so that a caller may lend the whole array.
+pub fn put_first_lines(
     out: &mut [u8],
     order: &[usize],
     earliest: &[i32],
@@ -73,4 +90,29 @@ pub fn put_lines(
         at = put_line(out, at, task, earliest[task], durations[task]);
     }
     at
+}
+
+#[cfg(test)]
+mod tests {
+    use super::*;
+
+    // The places of an order say which lines are put: one for each place, fewer or more than there are tasks.
+    #[test]
+    fn a_line_for_each_place(rt: HostRuntime) {
+        let mut durations = [0; TASKS];
+        durations[0] = 4;
+        durations[1] = 15;
+        let mut short = [b'.'; 64];
+        assert_eq!(rt; put_lines(&mut short, &[1], &[3, -12], &durations), 62);
+        let page = b"NR       START         END    \n 1         -12           3    \n..";
+        assert_eq!(rt; short.as_slice(), page.as_slice());
+        let mut long = [b'.'; 126];
+        assert_eq!(rt;
+            put_lines(&mut long, &[0, 1, 0], &[3, -12], &durations),
+            124
+        );
+        let page =
+            b"NR       START         END    \n 0           3           7    \n 1         -12           3    \n 0           3           7    \n..";
+        assert_eq!(rt; long.as_slice(), page.as_slice());
+    }
 }

@@ -2,7 +2,7 @@
 ghost use Rattle.fixed_schedules.specs.Neighbours.{Tested};
 ghost use Rattle.pages.specs.Pages.{page_number, Paged};
 
-use crate::lines::put_lines;
+use crate::lines::put_first_lines;
 use fixed_schedules::refusals::fixed_order;
 use integers::limits::TASKS;
 use integers::refused::Refusal;
@@ -37,5 +37,5 @@ pub fn page(
     ensures { Paged «record» earliest.now latest.now out.old result out.new }
 {
     let order = page_order(&record, earliest, latest, out.len())?;
-    Ok(put_lines(out, &order, earliest, &record.durations))
+    Ok(put_first_lines(out, &order, earliest, &record.durations))
 }

@@ -1,0 +1,13 @@
+-- The invariant: after the heading stand the lines of the tasks before this one in the order, which the first places have, LINE bytes each.
+use Rattle.std.proofs.Common.{◌≡◌, ◌+◌, ◌*◌, length, take}
+use mathlib.Core.List.{flat_map}
+use Rattle.text.specs.DecimalText.{Puts}
+use Rattle.pages.specs.Lines.{LINE}
+use Rattle.pages.specs.Pages.{line_at}
+use Rattle.pages.proofs.lines.put_first_lines.Given as goal
+
+abbrev pub invariant-loop-task : goal.invariant-loop-task
+invariant-loop-task l = record {
+  wide : l.at ≡ l.initial.at + LINE * l.task-index;
+  lines : Puts l.initial.out l.out l.initial.at (flat_map (line_at l.durations l.earliest) (take l.task-index (take (length l.earliest) l.order))) l.at;
+}
